@@ -15,7 +15,7 @@ pub record AreNear (frames : Both Frame) (gap : Point) : Type 0 where
   -- the shift of path 2 is a position
   pub two : IsPosition frames.two.shift
   -- the gap is a position
-  pub gap : IsPosition gap
+  pub apart : IsPosition gap
 
 -- frames, gap, bodies and boxes of the cell are in range
 pub record IsFit (cell : CellView) : Type 0 where

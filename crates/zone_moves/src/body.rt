@@ -1,5 +1,5 @@
 //! The bodies of tools: boxes round the programmed point, and the one of the tool in force.
-ghost use Rattle.std.specs.Prelude.{◌≡◌, All};
+ghost use Rattle.std.specs.Prelude.{◌≡◌, All, if◌then◌else◌};
 ghost use Rattle.zone_moves.specs.Bodies.{bare, is_body_of, last_body, body_of, IsBody, IsBodyArea};
 
 use nc_number::{Path, Point};
@@ -32,11 +32,23 @@ fn last_body(path: Path, tool: u16, before: Area, bodies: &[Body]) -> Area
 {
     let mut found = before;
     for body in bodies {
-        if is_body_of(path, tool, body) {
-            found = body.area;
-        }
+        found = later_body(path, tool, found, body);
     }
     found
+}
+
+/// The body if it is of this tool of the path, or else the one before it.
+fn later_body(path: Path, tool: u16, before: Area, body: &Body) -> Area
+    requires before { IsBodyArea before }
+    requires body { IsBody body.now }
+    ensures body { result ≡ if is_body_of path tool body.now then body.now.area else before }
+    ensures near { IsBodyArea result }
+{
+    if is_body_of(path, tool, body) {
+        body.area
+    } else {
+        before
+    }
 }
 
 /// The body of a tool of a path: the last of its own; else the last of tool 0; else the programmed

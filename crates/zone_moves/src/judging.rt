@@ -16,7 +16,10 @@ use std::alloc::Global;
 #[derive(Clone, Copy, Debug, PartialEq, Eq)]
 pub enum Hit {
     /// A stretch of each path.
-    Paths { one: Stretch, two: Stretch },
+    Paths {
+        one: Stretch,
+        two: Stretch,
+    },
     /// A stretch of a path, and the fixed box of this number.
     Fixed {
         path: Path,

@@ -1,6 +1,6 @@
 //! Which two stretches of the paths come within the gap. Both lists are halved again and again, and
 //! stretches that keep off the hull of a whole half are left out, so few pairs are looked at.
-ghost use Rattle.std.specs.Prelude.{◌≡◌, ◌++◌, None, All, IfOk, OnOk, length};
+ghost use Rattle.std.specs.Prelude.{◌≡◌, ◌≤◌, ◌∷◌, ◌++◌, None, All, IfOk, OnOk, length};
 ghost use Rattle.std.specs.List.{find, filter};
 ghost use Rattle.nc_number.specs.Position.{IsPosition};
 ghost use Rattle.zone_area.specs.Range.{IsInCell};
@@ -99,6 +99,60 @@ fn near_ones(
     Ok(near)
 }
 
+/// Those of the stretches on the right that come within the gap of the hull of this one and the rest
+/// on the left.
+fn near_rest(
+    alloc: Global,
+    gap: &Point,
+    one: &Stretch,
+    rest: &[Stretch],
+    right: &[Stretch],
+) -> Result<Vec<Stretch>, NoMemory>
+    requires gap { IsPosition gap.now }
+    requires one { IsPlaced one.now }
+    requires rest { All IsPlaced rest.now }
+    requires right { All IsPlaced right.now }
+    ensures same { IfOk result (λ v. first_pair gap.now (one.now ∷ rest.now) v.items ≡ first_pair gap.now (one.now ∷ rest.now) right.now) }
+    ensures placed { IfOk result (λ v. All IsPlaced v.items) }
+{
+    let near = near_ones(alloc, gap, &hull_along(&one.area, rest), right)?;
+    Ok(near)
+}
+
+/// Those of the stretches on the right that come within the gap of the hull of those on the left:
+/// the others keep the gap from each of them.
+fn near_all(
+    alloc: Global,
+    gap: &Point,
+    left: &[Stretch],
+    right: &[Stretch],
+) -> Result<Vec<Stretch>, NoMemory>
+    requires gap { IsPosition gap.now }
+    requires left { All IsPlaced left.now }
+    requires right { All IsPlaced right.now }
+    ensures same { IfOk result (λ v. first_pair gap.now left.now v.items ≡ first_pair gap.now left.now right.now) }
+    ensures placed { IfOk result (λ v. All IsPlaced v.items) }
+{
+    match left {
+        [] => Ok(Vec::new(alloc)),
+        [one, rest @ ..] => near_rest(alloc, gap, one, rest, right),
+    }
+}
+
+/// The first pair of one stretch on the left at most.
+fn single_pair(gap: &Point, left: &[Stretch], right: &[Stretch]) -> Option<Both<Stretch>>
+    requires gap { IsPosition gap.now }
+    requires left { All IsPlaced left.now }
+    requires right { All IsPlaced right.now }
+    requires single { length left.now ≤ 1 }
+    ensures { result ≡ first_pair gap.now left.now right.now }
+{
+    match left {
+        [] => None,
+        [one, ..] => pair_of(one, first_met(gap, one, right)),
+    }
+}
+
 /// The first stretch of path 1 that comes within the gap of one of path 2, with the first such one.
 pub(crate) fn first_pair(
     alloc: Global,
@@ -110,22 +164,18 @@ pub(crate) fn first_pair(
     requires left { All IsPlaced left.now }
     requires right { All IsPlaced right.now }
     ensures { IfOk result (λ pair. pair ≡ first_pair gap.now left.now right.now) }
-    decreases { length left.now }
 {
-    match left {
-        [] => Ok(None),
-        [one] => Ok(pair_of(one, first_met(gap, one, right))),
-        [one, rest @ ..] => {
-            let near = near_ones(alloc, gap, &hull_along(&one.area, rest), right)?;
-            if near.is_empty() {
-                return Ok(None);
-            }
-            let (front, back) = left.split_at(left.len() / 2);
-            match first_pair(alloc, gap, front, near.as_slice())? {
-                Some(pair) => Ok(Some(pair)),
-                None => first_pair(alloc, gap, back, near.as_slice()),
-            }
-        }
+    if left.len() < 2 {
+        return Ok(single_pair(gap, left, right));
+    }
+    let near = near_all(alloc, gap, left, right)?;
+    if near.is_empty() {
+        return Ok(None);
+    }
+    let (front, back) = left.split_at(left.len() / 2);
+    match first_pair(alloc, gap, front, near.as_slice())? {
+        Some(pair) => Ok(Some(pair)),
+        None => first_pair(alloc, gap, back, near.as_slice()),
     }
 }
 

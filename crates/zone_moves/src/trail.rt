@@ -132,13 +132,7 @@ impl Trail {
     }
 
     /// Takes a move of this line of the tape. The only error is out of memory.
-    pub fn add(
-        &mut self,
-        cell: &Cell,
-        path: Path,
-        line: u32,
-        what: &Move,
-    ) -> Result<(), NoMemory>
+    pub fn add(&mut self, cell: &Cell, path: Path, line: u32, what: &Move) -> Result<(), NoMemory>
         requires { IsMoveWithin LONGEST what.now }
         ensures { OnOk result (self.new ≡ trail_with cell.now path self.old (lined_move line what.now)) }
     {
