@@ -1,13 +1,13 @@
 //! How both paths lie in the cell, how far apart they are to stay, the bodies of their tools, and
 //! what stands in the cell.
-ghost use Rattle.std.specs.Prelude.{◌≡◌, ◌∷◌, ◌++◌, [], All, OnOk};
+ghost use Rattle.std.specs.Prelude.{◌≡◌, ◌∷◌, ◌++◌, [], All, OnOk, length};
 ghost use Rattle.nc_number.specs.Position.{IsPosition, IsWithin};
 ghost use Rattle.zone_area.specs.Area.{area_in_cell};
 ghost use Rattle.zone_area.specs.Range.{far_corner, far_grown, IsNearArea, IsGrownArea, IsInCell};
 ghost use Rattle.zone_moves.specs.Bodies.{grown, sum_of, IsBody, IsBodyArea};
 ghost use Rattle.zone_moves.specs.Fixed.{IsFixed};
 ghost use Rattle.zone_moves.specs.Stretches.{touched_area};
-ghost use Rattle.zone_moves.specs.Cells.{AreNear};
+ghost use Rattle.zone_moves.specs.Cells.{AreShifted, empty_cell};
 
 use crate::body::{Body, body_of};
 use crate::fixed::FixedBox;
@@ -41,17 +41,50 @@ impl Model for Cell {
 }
 
 impl Cell {
-    /// A cell with these frames and this gap, without a body and without a box.
-    pub fn new(alloc: Global, frames: Both<Frame>, gap: Point) -> Cell
-        requires { AreNear frames gap }
-        ensures { result ≡ record { frames = frames; gap = gap; bodies = []; boxes = [] } }
+    /// The cell before anything is said of it: both paths lie in it as they are, and nothing stands
+    /// there.
+    pub fn empty(alloc: Global) -> Cell
+        ensures { result ≡ empty_cell }
     {
+        let origin = Point { x: 0, z: 0 };
+        let frame = Frame {
+            mirror: false,
+            mirror_z: false,
+            shift: origin,
+        };
         Cell {
-            frames,
-            gap,
+            frames: Both {
+                one: frame,
+                two: frame,
+            },
+            gap: origin,
             bodies: Vec::new(alloc),
             boxes: Vec::new(alloc),
         }
+    }
+
+    /// How each path lies in the cell.
+    pub fn frames(&self) -> Both<Frame>
+        ensures frames { result ≡ self.now.frames }
+        ensures near { AreShifted result }
+    {
+        self.frames
+    }
+
+    /// Lays the paths into the cell.
+    pub fn set_frames(&mut self, frames: Both<Frame>)
+        requires { AreShifted frames }
+        ensures { self.new ≡ record self.old { frames = frames } }
+    {
+        self.frames = frames;
+    }
+
+    /// Says how far apart bodies are to stay.
+    pub fn set_gap(&mut self, gap: Point)
+        requires { IsPosition gap }
+        ensures { self.new ≡ record self.old { gap = gap } }
+    {
+        self.gap = gap;
     }
 
     /// Adds the body of a tool. The only error is out of memory.
@@ -78,6 +111,13 @@ impl Cell {
         ensures near { IsPosition result }
     {
         self.gap
+    }
+
+    /// How many boxes stand in the cell.
+    pub fn box_count(&self) -> usize
+        ensures { result ≡ length self.now.boxes }
+    {
+        self.boxes.len()
     }
 
     /// What stands in the cell.

@@ -1,12 +1,12 @@
 //! The stretches of a path so far: where it stands, its tool, and what its moves may have touched.
-ghost use Rattle.std.specs.Prelude.{◌≡◌, ◌<◌, ◌^◌, [], ◌∷◌, All, IfOk, OnOk};
+ghost use Rattle.std.specs.Prelude.{◌≡◌, ◌<◌, ◌^◌, [], ◌∷◌, All, IfOk, OnOk, map};
 ghost use Rattle.nc_number.specs.Position.{IsPosition};
 ghost use Rattle.motion_track.specs.Within.{IsMoveWithin};
 ghost use Rattle.nc_outside.specs.Lined.{lined_move};
 ghost use Rattle.zone_area.specs.Area.{area_at, area_of};
 ghost use Rattle.zone_area.specs.Passing.{place_after};
 ghost use Rattle.zone_area.specs.Range.{IsNearArea};
-ghost use Rattle.zone_moves.specs.Stretches.{CellView, start_stretch, move_stretch, tool_after, is_rapid, trail_at, trail_with, IsPlaced};
+ghost use Rattle.zone_moves.specs.Stretches.{CellView, start_stretch, move_stretch, tool_after, is_rapid, trail_at, trail_with, trail_along, IsPlaced};
 
 use crate::cell::Cell;
 use crate::stretch::{Source, Stretch};
@@ -146,6 +146,23 @@ impl Trail {
         })?;
         self.tool = tool;
         self.at = place_after(&self.at, what);
+        Ok(())
+    }
+
+    /// Takes the moves of the block at this line of the tape. The only error is out of memory.
+    pub fn add_block(
+        &mut self,
+        cell: &Cell,
+        path: Path,
+        line: u32,
+        moves: &[Move],
+    ) -> Result<(), NoMemory>
+        requires { All (IsMoveWithin LONGEST) moves.now }
+        ensures { OnOk result (self.new ≡ trail_along cell.now path self.old (map (lined_move line) moves.now)) }
+    {
+        for what in moves {
+            self.add(cell, path, line, what)?;
+        }
         Ok(())
     }
 

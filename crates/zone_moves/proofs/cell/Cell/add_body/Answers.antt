@@ -10,7 +10,8 @@ pub invariant_of-self-2 : goal.invariant_of-self-2
 invariant_of-self-2 c =
     let items : c.push.new.self.items ≡ c.self.inside.bodies.items ++ c.args.body ∷ [] = search rules in
     record {
-      near = c.self.invariant.near;
+      shifted = c.self.invariant.shifted;
+      apart = c.self.invariant.apart;
       bodies = subst (All IsBody) (sym items) (All-push IsBody c.self.inside.bodies.items c.args.body c.self.invariant.bodies c.requires);
       boxes = c.self.invariant.boxes;
     }

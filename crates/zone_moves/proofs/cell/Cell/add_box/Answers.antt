@@ -10,7 +10,8 @@ pub invariant_of-self-2 : goal.invariant_of-self-2
 invariant_of-self-2 c =
     let items : c.push.new.self.items ≡ c.self.inside.boxes.items ++ c.args.fixed ∷ [] = search rules in
     record {
-      near = c.self.invariant.near;
+      shifted = c.self.invariant.shifted;
+      apart = c.self.invariant.apart;
       boxes = subst (All IsFixed) (sym items) (All-push IsFixed c.self.inside.boxes.items c.args.fixed c.self.invariant.boxes c.requires);
       bodies = c.self.invariant.bodies;
     }
