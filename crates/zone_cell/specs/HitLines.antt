@@ -1,6 +1,6 @@
 -- The text of the findings of a run, line by line: what is hit in each segment, if anything
 -- (src/hit_lines.rt writes the lines).
-use Rattle.std.specs.Prelude.{ℕ, ◌+◌, Bool, true, false, List, [], ◌∷◌, ◌++◌, Option, Some, None, length, codes, decimal}
+use Rattle.std.specs.Prelude.{ℕ, ◌+◌, Bool, true, false, List, [], ◌∷◌, ◌++◌, Option, Some, None, codes, decimal}
 use Rattle.std.specs.List.{count_by}
 use Rattle.text_pieces.specs.Pieces.{text_with_number, path_name}
 use Rattle.nc_number.specs.declared.path.Path.{Path}

@@ -1,8 +1,8 @@
 -- Where nothing is hit, what bodies may touch keeps the gap. The laws `clear_moves_keep_apart` and
 -- `clear_moves_keep_off_boxes` (src/laws.rt) rest on it.
-use Rattle.std.proofs.Common.{◌≡◌, ℕ, ◌≤◌, Bool, true, false, not, ◌&&◌, List, [], ◌∷◌, Option, Some, None, ◌⊎◌, inl, inr, refl, ap, sym, subst, ◌∙◌, if◌then◌else◌}
+use Rattle.std.proofs.Common.{◌≡◌, ℕ, ◌≤◌, Bool, true, false, List, [], ◌∷◌, Option, Some, None, ◌⊎◌, inl, inr, refl, ap, sym, subst, ◌∙◌}
 use Rattle.std.specs.List.{find, Contains}
-use Rattle.nc_number.proofs.Bools.{not_false, both_true}
+use Rattle.nc_number.proofs.Bools.{not_false}
 use Rattle.nc_number.specs.declared.both.Both.{Both}
 use Rattle.nc_number.specs.declared.path.Path.{Path}
 use Rattle.nc_number.specs.declared.path.Path.TheVariants.{One, Two}
@@ -15,7 +15,6 @@ use Rattle.zone_area.specs.Passing.{IsInside, AreApart, point_in_cell}
 use Rattle.zone_area.proofs.Apart.{clear_apart}
 use Rattle.zone_moves.specs.declared.fixed.Barred.{Barred}
 use Rattle.zone_moves.specs.declared.fixed.FixedBox.{FixedBox}
-use Rattle.zone_moves.specs.declared.judging.Hit.{Hit}
 use Rattle.zone_moves.specs.declared.stretch.Stretch.{Stretch}
 use Rattle.zone_moves.specs.Fixed.{binds, is_barred, barred_or, first_barred}
 use Rattle.zone_moves.specs.Judged.{pair_hit, barred_hit, judged}
@@ -23,7 +22,7 @@ use Rattle.zone_moves.specs.Pairs.{meets, first_met, pair_or, first_pair}
 use Rattle.zone_moves.specs.Stretches.{CellView, stretches_of}
 use Rattle.zone_moves.specs.Touching.{Touches, all_moves}
 use Rattle.zone_moves.proofs.Members.{IsIn, is_in}
-use Rattle.zone_moves.proofs.Touched.{LiesIn, lies_in}
+use Rattle.zone_moves.proofs.Touched.{lies_in}
 
 -- a stretch that meets none of these is clear of each
 met_none : (gap : Point) (l : Stretch) (others : List Stretch) (r : Stretch) → first_met gap l others ≡ None → IsIn r others

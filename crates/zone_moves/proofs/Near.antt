@@ -1,9 +1,9 @@
 -- What is hit does come within the gap. The law `what_is_hit_is_near` (src/laws.rt) rests on it.
-use Rattle.std.proofs.Common.{◌≡◌, ℕ, Bool, true, false, not, ◌&&◌, ◌||◌, List, [], ◌∷◌, Option, Some, None, ◌⊎◌, inl, inr, ℤ, pos, ◌+ℤ◌, ◌≤ℤ◌, ◌<ℤ◌, refl, ap, sym, subst, ◌∙◌, arith, if◌then◌else◌}
+use Rattle.std.proofs.Common.{◌≡◌, Bool, true, false, not, ◌&&◌, List, [], ◌∷◌, Option, Some, None, inl, inr, ℤ, pos, ◌≤ℤ◌, refl, ap, sym, subst, ◌∙◌, arith}
 use Rattle.std.proofs.lemmas.Int.{ints}
 use Rattle.std.specs.Prelude.{int_lt}
 use Rattle.std.specs.Int.{int_max}
-use Rattle.std.specs.List.{find, All, Contains}
+use Rattle.std.specs.List.{find, All}
 use Rattle.nc_number.proofs.Bools.{neither, not_true, both}
 use Rattle.nc_number.specs.Distances.{distance}
 use Rattle.nc_number.specs.declared.both.Both.{Both}
@@ -12,7 +12,7 @@ use Rattle.nc_number.specs.declared.path.Path.TheVariants.{One, Two}
 use Rattle.nc_number.specs.declared.point.Point.{Point}
 use Rattle.nc_number.specs.Path.{is_same}
 use Rattle.zone_area.specs.declared.area.Area.{Area}
-use Rattle.zone_area.specs.Area.{Holds, is_beyond, lie_apart, is_clear}
+use Rattle.zone_area.specs.Area.{is_beyond, lie_apart, is_clear}
 use Rattle.zone_moves.specs.declared.fixed.Barred.{Barred}
 use Rattle.zone_moves.specs.declared.fixed.FixedBox.{FixedBox}
 use Rattle.zone_moves.specs.declared.judging.Hit.{Hit}

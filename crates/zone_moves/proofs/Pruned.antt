@@ -1,12 +1,12 @@
 -- A list of stretches meets those of another list that its hull meets, and no others; and a list
 -- meets first what its front does. `first_pair` (src/pairs.rt) rests on it.
-use Rattle.std.proofs.Common.{◌≡◌, ℕ, ◌+◌, ◌<◌, length, drop, get_or, append_assoc, Bool, true, false, not, ◌||◌, List, [], ◌∷◌, ◌++◌, Option, Some, None, ℤ, ◌+ℤ◌, ◌≤ℤ◌, refl, ap, sym, ◌∙◌, arith, inl, inr, if◌then◌else◌}
+use Rattle.std.proofs.Common.{◌≡◌, ℕ, ◌+◌, ◌<◌, length, drop, get_or, append_assoc, Bool, true, false, List, [], ◌∷◌, ◌++◌, Option, Some, None, ℤ, ◌≤ℤ◌, refl, ap, sym, ◌∙◌, arith, inl, inr, if◌then◌else◌}
 use Rattle.std.proofs.lemmas.Int.{ints}
-use Rattle.std.specs.List.{find, filter, All}
+use Rattle.std.specs.List.{filter, All}
 use Rattle.std.proofs.lemmas.List.{drop_more}
 use Rattle.std.specs.Int.{int_min, int_max}
 use Rattle.std.proofs.lemmas.List.Elements.{All-head, All-tail, All-cons}
-use Rattle.nc_number.proofs.Bools.{either, or_left, or_right, not_true, not_false}
+use Rattle.nc_number.proofs.Bools.{either, or_left, or_right, not_false}
 use Rattle.nc_number.specs.declared.both.Both.{Both}
 use Rattle.nc_number.specs.declared.point.Point.{Point}
 use Rattle.zone_area.specs.declared.area.Area.{Area}

@@ -1,15 +1,14 @@
 -- What a path may touch lies in one of its stretches. Kept rests on it.
-use Rattle.std.proofs.Common.{◌≡◌, ℕ, ◌≤◌, Bool, true, false, List, [], ◌∷◌, ◌⊎◌, inl, inr, ◌+ℤ◌, ◌*ℤ◌, ◌≤ℤ◌, ℤ, pos, refl, arith}
+use Rattle.std.proofs.Common.{◌≡◌, ℕ, Bool, true, List, [], ◌∷◌, ◌⊎◌, inl, inr, ◌+ℤ◌, ◌*ℤ◌, ◌≤ℤ◌, ℤ, pos, refl, arith}
 use Rattle.std.proofs.lemmas.Int.{ints}
 use Rattle.nc_number.specs.Both.{of_path}
 use Rattle.nc_number.specs.declared.path.Path.{Path}
 use Rattle.nc_number.specs.declared.point.Point.{Point}
-use Rattle.nc_moves.specs.declared.motion.Move.{Move}
 use Rattle.nc_outside.specs.declared.lined_move.LinedMove.{LinedMove}
 use Rattle.zone_area.specs.declared.area.Area.{Area}
 use Rattle.zone_area.specs.declared.frame.Frame.{Frame}
-use Rattle.zone_area.specs.Area.{area_at, area_of, area_in_cell}
-use Rattle.zone_area.specs.Passing.{in_parts, MayPass, IsInside, place_after, point_in_cell}
+use Rattle.zone_area.specs.Area.{area_at, area_of}
+use Rattle.zone_area.specs.Passing.{in_parts, IsInside, place_after, point_in_cell}
 use Rattle.zone_area.proofs.Scaled.{scaled_add}
 use Rattle.zone_area.proofs.InArea.{all_inside}
 use Rattle.zone_area.proofs.Least.{area_holds}

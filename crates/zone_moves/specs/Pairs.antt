@@ -1,5 +1,5 @@
 -- Which two stretches of the paths come within the gap.
-use Rattle.std.specs.Prelude.{Bool, not, List, [], ◌∷◌, Option, Some, None, ℤ, pos, ◌≤ℤ◌, if◌then◌else◌}
+use Rattle.std.specs.Prelude.{Bool, not, List, [], ◌∷◌, Option, Some, None, pos, ◌≤ℤ◌, if◌then◌else◌}
 use Rattle.std.specs.List.{find}
 use Rattle.nc_number.specs.declared.both.Both.{Both}
 use Rattle.nc_number.specs.declared.point.Point.{Point}

@@ -1,6 +1,6 @@
 -- A pair of the front half is the first; else it is that of the back half (`first_pair`,
 -- src/pairs.rt).
-use Rattle.std.proofs.Common.{◌≡◌, ◌++◌, [], length, sym, subst, ap, ◌∙◌, IfOk, arith}
+use Rattle.std.proofs.Common.{◌≡◌, ◌++◌, length, sym, subst, ap, ◌∙◌, IfOk, arith}
 use Rattle.std.proofs.lemmas.List.{take-append-drop}
 use Rattle.zone_moves.specs.Pairs.{first_pair}
 use Rattle.zone_moves.proofs.Pruned.{none_to_meet, no_items, front_pair, back_pair}

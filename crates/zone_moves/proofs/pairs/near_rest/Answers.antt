@@ -1,9 +1,8 @@
 -- What is left out meets none of the stretches, since it does not meet their hull (`near_rest`,
 -- src/pairs.rt).
-use Rattle.std.proofs.Common.{◌≡◌, ◌∷◌, ◌∙◌, ap, sym, subst}
-use Rattle.std.specs.List.{filter, All}
-use Rattle.zone_moves.specs.declared.stretch.Stretch.{Stretch}
-use Rattle.zone_moves.specs.Pairs.{meets, first_pair, hull_along}
+use Rattle.std.proofs.Common.{◌∷◌, ◌∙◌, ap, sym, subst}
+use Rattle.std.specs.List.{All}
+use Rattle.zone_moves.specs.Pairs.{first_pair}
 use Rattle.zone_moves.specs.Stretches.{IsPlaced}
 use Rattle.zone_moves.proofs.Pruned.{hull_pruned, all_kept}
 use Rattle.zone_moves.proofs.pairs.near_rest.Goals as goal

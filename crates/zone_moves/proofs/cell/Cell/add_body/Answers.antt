@@ -1,8 +1,7 @@
 -- One more is in range, as all before it (`Cell::add_body`, src/cell.rt).
-use Rattle.std.proofs.Common.{rules, ◌≡◌, ◌++◌, ◌∷◌, [], List, sym, subst}
+use Rattle.std.proofs.Common.{rules, ◌≡◌, ◌++◌, ◌∷◌, [], sym, subst}
 use Rattle.std.specs.List.{All}
 use Rattle.std.proofs.lemmas.List.Elements.{All-push}
-use Rattle.zone_moves.specs.declared.body.Body.{Body}
 use Rattle.zone_moves.specs.Bodies.{IsBody}
 use Rattle.zone_moves.proofs.cell.Cell.add_body.Goals as goal
 

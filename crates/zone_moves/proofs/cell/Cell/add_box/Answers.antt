@@ -1,8 +1,7 @@
 -- One more is in range, as all before it (`Cell::add_box`, src/cell.rt).
-use Rattle.std.proofs.Common.{rules, ◌≡◌, ◌++◌, ◌∷◌, [], List, sym, subst}
+use Rattle.std.proofs.Common.{rules, ◌≡◌, ◌++◌, ◌∷◌, [], sym, subst}
 use Rattle.std.specs.List.{All}
 use Rattle.std.proofs.lemmas.List.Elements.{All-push}
-use Rattle.zone_moves.specs.declared.fixed.FixedBox.{FixedBox}
 use Rattle.zone_moves.specs.Fixed.{IsFixed}
 use Rattle.zone_moves.proofs.cell.Cell.add_box.Goals as goal
 
