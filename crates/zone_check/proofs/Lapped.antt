@@ -1,6 +1,6 @@
 -- What is hit in the segments kept while records are done again is what is hit in those of the
 -- history. `findings` (src/judging.rt) rests on it.
-use Rattle.std.proofs.Common.{◌≡◌, ℕ, ◌≤◌, Bool, true, false, List, [], ◌∷◌, ◌++◌, Option, Some, None, Result, Ok, Err, length, drop, map, refl, ap, sym, ◌∙◌, append_assoc, append-nil, if◌then◌else◌}
+use Rattle.std.proofs.Common.{◌≡◌, ℕ, ◌≤◌, Bool, true, false, List, [], ◌∷◌, ◌++◌, Option, None, Result, Ok, Err, length, drop, map, refl, ap, sym, ◌∙◌, append_assoc, append-nil, if◌then◌else◌}
 use Rattle.std.specs.Prelude.{IfOk}
 use Rattle.std.proofs.lemmas.List.{at_drop_all}
 use Rattle.nc_number.specs.declared.both.Both.{Both}
@@ -18,7 +18,7 @@ use Rattle.two_path.specs.Made.{moves_made_by, moves_in, turns_from, moves_of}
 use Rattle.two_path.proofs.Replays.{turn_at, fold_more}
 use Rattle.zone_area.specs.Passing.{place_after}
 use Rattle.zone_moves.specs.declared.stretch.Stretch.{Stretch}
-use Rattle.zone_moves.specs.Stretches.{CellView, TrailView, tool_after, start_stretch, move_stretch, move_stretches, stretches_of, trail_at, trail_with, trail_along}
+use Rattle.zone_moves.specs.Stretches.{CellView, TrailView, tool_after, move_stretch, move_stretches, stretches_of, trail_at, trail_with, trail_along}
 use Rattle.zone_moves.specs.Judged.{judged}
 use Rattle.zone_cell.specs.declared.finding.Finding.{Finding}
 use Rattle.zone_check.specs.Laps.{Lap, tool_in_force, lap_of, met_code, laps_from, finding_of, findings_of_history}

@@ -25,4 +25,7 @@ pub use telling::{write_end, write_findings};
 pub use writing::write_zones;
 
 // For users of the library: laws that no crate of the program takes.
-pub use laws::{a_zone_holds_what_may_be_passed, clear_zones_keep_apart, moves_lead_to_positions};
+pub use laws::{
+    a_zone_holds_what_may_be_passed, clear_laps_keep_apart, clear_zones_keep_apart,
+    moves_lead_to_positions,
+};

@@ -23,8 +23,9 @@ pub use body::Body;
 pub use cell::Cell;
 pub use fixed::{FixedBox, Keeps};
 pub use judging::{Hit, judge};
+pub use laws::clear_moves_keep_apart;
 pub use stretch::{Source, Stretch};
 pub use trail::Trail;
 
 // For users of the library: laws that no crate of the program takes.
-pub use laws::{clear_moves_keep_apart, clear_moves_keep_off_boxes, what_is_hit_is_near};
+pub use laws::{clear_moves_keep_off_boxes, what_is_hit_is_near};
