@@ -98,6 +98,7 @@ greater_within far a b na nb = grind (arith, ints)
 
 -- the hull of two areas is as near to 0 as both are
 pub hull_within : (far : ℕ) (a b : Area) → IsAreaWithin far a → IsAreaWithin far b → IsAreaWithin far (hull_of a b)
-hull_within far a b na nb =
-    ((lesser_within far a.low.x b.low.x na.0.0 nb.0.0, lesser_within far a.low.z b.low.z na.0.1 nb.0.1),
-    (greater_within far a.high.x b.high.x na.1.0 nb.1.0, greater_within far a.high.z b.high.z na.1.1 nb.1.1))
+hull_within far a b na nb = (
+  (lesser_within far a.low.x b.low.x na.0.0 nb.0.0, lesser_within far a.low.z b.low.z na.0.1 nb.0.1),
+  (greater_within far a.high.x b.high.x na.1.0 nb.1.0, greater_within far a.high.z b.high.z na.1.1 nb.1.1),
+)
