@@ -37,10 +37,10 @@ across d true low high shift q l h =
     shifted d (neg_ℤ high) (neg_ℤ low) shift (neg_ℤ q) (rw high_is (omega (arith, ints, h))) (rw low_is (omega (arith, ints, l)))
 
 -- a point in an area lies in it as both lie in the cell
-in_cell : (d : ℕ) (frame : Frame) (area : Area) (q : Point) → IsInside d area q → IsInside d (area_in_cell frame area) (point_in_cell d frame q)
+pub in_cell : (d : ℕ) (frame : Frame) (area : Area) (q : Point) → IsInside d area q → IsInside d (area_in_cell frame area) (point_in_cell d frame q)
 in_cell d frame area q i =
     let x = across d frame.mirror area.low.x area.high.x frame.shift.x q.x i.left i.right in
-    let z = shifted d area.low.z area.high.z frame.shift.z q.z i.below i.above in
+    let z = across d frame.mirror_z area.low.z area.high.z frame.shift.z q.z i.below i.above in
     record { left = x.0; right = x.1; below = z.0; above = z.1 }
 
 -- a length that lies beyond another by more than the gap keeps what lies on its side as far apart
@@ -61,7 +61,7 @@ first_beyond : (g p q : ℤ) → g <ℤ (p -ℤ q) → g <ℤ pos (distance p q)
 first_beyond g p q less = omega (arith, ints, less)
 
 -- two points of clear areas differ by more than the gap in X or in Z
-clear_apart : (d : ℕ) (gap : Point) (a b : Area) (p q : Point) → 1 ≤ d → is_clear gap a b ≡ true → IsInside d a p → IsInside d b q → AreApart d gap p q
+pub clear_apart : (d : ℕ) (gap : Point) (a b : Area) (p q : Point) → 1 ≤ d → is_clear gap a b ≡ true → IsInside d a p → IsInside d b q → AreApart d gap p q
 clear_apart d gap a b p q some clear i j = elim (either _ _ clear) [
   | inl x ↦ (elim (either _ _ x) [
     | inl up ↦ inl (second_beyond _ p.x q.x (beyond d gap.x a.high.x b.low.x p.x q.x some up i.right j.left))

@@ -12,8 +12,8 @@ use Rattle.nc_number.proofs.Points.{same_point}
 use Rattle.zone_area.specs.Roots.{least_root}
 use Rattle.nc_number.specs.Signs.{signed_number}
 use Rattle.zone_area.specs.Passing.{middle_of}
-use Rattle.zone_area.specs.Area.{reach_of, lie_apart}
-use Rattle.zone_area.specs.Range.{far_apart, far_square, far_in_cell}
+use Rattle.zone_area.specs.Area.{reach_of, lie_apart, hull_of}
+use Rattle.zone_area.specs.Range.{far_apart, far_square, far_in_cell, IsAreaWithin}
 
 -- the square of a distance within range is within range
 pub square_bound : (d : ℕ) → d ≤ far_apart → d * d ≤ far_square
@@ -87,3 +87,18 @@ root_reached at to m i k p q most root m_is p_is q_is most_is root_is =
 pub distance_stored : (n : ℕ) (a b : ℤ) → unsigned_abs a ≤ far_in_cell → unsigned_abs b ≤ far_in_cell
     → n ≡ unsigned_abs (to_z w64 (of_z w64 a) -ℤ to_z w64 (of_z w64 b)) → n ≡ unsigned_abs (a -ℤ b)
 distance_stored n a b na nb is = is ∙ rw (stored a a refl na, stored b b refl nb) refl
+
+-- the lesser of two lengths is as near to 0 as both are
+lesser_within : (far : ℕ) (a b : ℤ) → unsigned_abs a ≤ far → unsigned_abs b ≤ far → unsigned_abs (int_min a b) ≤ far
+lesser_within far a b na nb = grind (arith, ints)
+
+-- the greater of two lengths is as near to 0 as both are
+greater_within : (far : ℕ) (a b : ℤ) → unsigned_abs a ≤ far → unsigned_abs b ≤ far → unsigned_abs (int_max a b) ≤ far
+greater_within far a b na nb = grind (arith, ints)
+
+-- the hull of two areas is as near to 0 as both are
+pub hull_within : (far : ℕ) (a b : Area) → IsAreaWithin far a → IsAreaWithin far b → IsAreaWithin far (hull_of a b)
+hull_within far a b na nb = (
+  (lesser_within far a.low.x b.low.x na.0.0 nb.0.0, lesser_within far a.low.z b.low.z na.0.1 nb.0.1),
+  (greater_within far a.high.x b.high.x na.1.0 nb.1.0, greater_within far a.high.z b.high.z na.1.1 nb.1.1),
+)

@@ -121,11 +121,11 @@ abbrev pub area_in_cell : Frame → Area → Area
 area_in_cell frame area = record {
   low = record {
     x = signed_number frame.mirror (if frame.mirror then area.high.x else area.low.x) +ℤ frame.shift.x;
-    z = area.low.z +ℤ frame.shift.z;
+    z = signed_number frame.mirror_z (if frame.mirror_z then area.high.z else area.low.z) +ℤ frame.shift.z;
   };
   high = record {
     x = signed_number frame.mirror (if frame.mirror then area.low.x else area.high.x) +ℤ frame.shift.x;
-    z = area.high.z +ℤ frame.shift.z;
+    z = signed_number frame.mirror_z (if frame.mirror_z then area.low.z else area.high.z) +ℤ frame.shift.z;
   };
 }
 

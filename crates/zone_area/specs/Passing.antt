@@ -66,11 +66,11 @@ pub record IsInside (d : ℕ) (area : Area) (q : Point) : Type 0 where
   -- the point has at most the greatest Z
   pub above : q.z ≤ℤ (in_parts d area.high).z
 
--- a point in parts, as it lies in the cell: X is negated under `mirror`
+-- a point in parts, as it lies in the cell: X is negated under `mirror`, Z under `mirror_z`
 abbrev pub point_in_cell : ℕ → Frame → Point → Point
 point_in_cell d frame q = record {
   x = signed_number frame.mirror q.x +ℤ (in_parts d frame.shift).x;
-  z = q.z +ℤ (in_parts d frame.shift).z;
+  z = signed_number frame.mirror_z q.z +ℤ (in_parts d frame.shift).z;
 }
 
 -- two points in parts differ by more than the gap in X or in Z

@@ -30,17 +30,29 @@ far_reach = 1000000000000000
 abbrev pub far_corner : ℕ
 far_corner = 2000000000000000
 
+-- how far from 0 a corner of an area lies at most along each axis, with the body of a tool round it
+abbrev pub far_grown : ℕ
+far_grown = 3000000000000000
+
 -- how far from 0 a corner of an area lies at most along each axis, as it lies in the cell
 abbrev pub far_in_cell : ℕ
 far_in_cell = 4000000000000000
 
+-- neither corner of an area is farther from 0 than `far`
+abbrev pub IsAreaWithin : ℕ → Area → Type 0
+IsAreaWithin far area = IsWithin far area.low × IsWithin far area.high
+
 -- both corners of an area of moves are in range
 abbrev pub IsNearArea : Area → Type 0
-IsNearArea area = IsWithin far_corner area.low × IsWithin far_corner area.high
+IsNearArea area = IsAreaWithin far_corner area
+
+-- both corners of an area of moves are in range, with the body of a tool round it
+abbrev pub IsGrownArea : Area → Type 0
+IsGrownArea area = IsAreaWithin far_grown area
 
 -- both corners of an area in the cell are in range
 abbrev pub IsInCell : Area → Type 0
-IsInCell area = IsWithin far_in_cell area.low × IsWithin far_in_cell area.high
+IsInCell area = IsAreaWithin far_in_cell area
 
 -- the area of what was swept is in range, and the path stands at a position
 pub record IsNear (s : SweptView) : Type 0 where

@@ -1,10 +1,10 @@
 //! Rectangles in X and Z, in 0.001 mm, and the least one that holds two. How they lie in the cell is
 //! in frame.rt.
-ghost use Rattle.std.specs.Prelude.{◌≡◌, ◌≤◌, unsigned_abs};
+ghost use Rattle.std.specs.Prelude.{◌≡◌, ◌≤◌, ℕ, unsigned_abs};
 ghost use Rattle.std.specs.Int.{int_min, int_max};
 ghost use Rattle.nc_number.specs.Position.{IsPosition};
 ghost use Rattle.zone_area.specs.Area.{area_at, hull_of};
-ghost use Rattle.zone_area.specs.Range.{far_corner, IsNearArea};
+ghost use Rattle.zone_area.specs.Range.{far_in_cell, IsAreaWithin, IsInCell, IsNearArea};
 
 use nc_number::Point;
 
@@ -31,11 +31,11 @@ impl Area {
     }
 
     /// The least area that holds this one and another.
-    pub(crate) fn hull(&self, other: &Area) -> Area
-        requires me { IsNearArea self.now }
-        requires other { IsNearArea other.now }
+    pub fn hull(&self, other: &Area) -> Area
+        requires me { IsInCell self.now }
+        requires other { IsInCell other.now }
         ensures hull { result ≡ hull_of self.now other.now }
-        ensures near { IsNearArea result }
+        ensures near { (far : ℕ) → IsAreaWithin far self.now → IsAreaWithin far other.now → IsAreaWithin far result }
     {
         Area {
             low: Point {
@@ -52,20 +52,20 @@ impl Area {
 
 /// The lesser of two lengths.
 fn lesser(a: i64, b: i64) -> i64
-    requires a { unsigned_abs a ≤ far_corner }
-    requires b { unsigned_abs b ≤ far_corner }
+    requires a { unsigned_abs a ≤ far_in_cell }
+    requires b { unsigned_abs b ≤ far_in_cell }
     ensures lesser { result ≡ int_min a b }
-    ensures near { unsigned_abs result ≤ far_corner }
+    ensures near { unsigned_abs result ≤ far_in_cell }
 {
     if b < a { b } else { a }
 }
 
 /// The greater of two lengths.
 fn greater(a: i64, b: i64) -> i64
-    requires a { unsigned_abs a ≤ far_corner }
-    requires b { unsigned_abs b ≤ far_corner }
+    requires a { unsigned_abs a ≤ far_in_cell }
+    requires b { unsigned_abs b ≤ far_in_cell }
     ensures greater { result ≡ int_max a b }
-    ensures near { unsigned_abs result ≤ far_corner }
+    ensures near { unsigned_abs result ≤ far_in_cell }
 {
     if b < a { a } else { b }
 }

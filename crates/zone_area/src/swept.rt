@@ -4,7 +4,7 @@ ghost use Rattle.nc_number.specs.Position.{IsPosition};
 ghost use Rattle.motion_track.specs.Centre.{IsGivenWithin};
 ghost use Rattle.motion_track.specs.Within.{centre_in, IsMoveWithin};
 ghost use Rattle.zone_area.specs.Passing.{place_after};
-ghost use Rattle.zone_area.specs.Area.{area_to, swept_at, swept_with, swept_along};
+ghost use Rattle.zone_area.specs.Area.{area_to, hull_of, swept_at, swept_with, swept_along};
 ghost use Rattle.zone_area.specs.Range.{IsNearArea};
 
 use crate::arc::arc_area;
@@ -56,7 +56,7 @@ impl Swept {
     }
 
     /// Takes a move.
-    fn add(&mut self, what: &Move)
+    pub fn add(&mut self, what: &Move)
         requires { IsMoveWithin LONGEST what.now }
         ensures { self.new ≡ swept_with self.old what.now }
     {
@@ -114,11 +114,21 @@ fn area_to(area: &Area, at: &Point, end: &Option<Point>, centre: &Option<Centre>
     match *end {
         None => *area,
         Some(to) => {
-            let ended = area.hull(&Area::at(&to));
+            let ended = near_hull(area, &Area::at(&to));
             match *centre {
                 None => ended,
-                Some(centre) => ended.hull(&arc_area(at, &to, &centre)),
+                Some(centre) => near_hull(&ended, &arc_area(at, &to, &centre)),
             }
         }
     }
+}
+
+/// The least area that holds two areas of moves.
+fn near_hull(area: &Area, other: &Area) -> Area
+    requires area { IsNearArea area.now }
+    requires other { IsNearArea other.now }
+    ensures hull { result ≡ hull_of area.now other.now }
+    ensures near { IsNearArea result }
+{
+    area.hull(other)
 }

@@ -3,5 +3,11 @@
 pub mod Zones
 pub mod Lines
 pub mod Faults
+-- The lines of what is hit.
+pub mod HitLines
+-- What a text asks for: zones by areas, or a cell in which moves are judged one by one.
+pub mod Plans
 -- Zones rests on it.
 pub mod Entry
+-- Plans rests on it.
+pub mod CellEntry

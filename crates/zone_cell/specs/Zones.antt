@@ -33,7 +33,7 @@ pub record AreNear (zones : ZonesView) : Type 0 where
 
 -- a path that lies in the cell as it is
 abbrev pub at_origin : Frame
-at_origin = record { mirror = false; shift = origin }
+at_origin = record { mirror = false; mirror_z = false; shift = origin }
 
 -- the zones of an empty text
 abbrev pub standard : ZonesView
@@ -41,11 +41,11 @@ standard = record { frames = record { one = at_origin; two = at_origin }; gap = 
 
 -- the frame with another shift
 abbrev pub shifted_to : Point → Frame → Frame
-shifted_to to frame = record { mirror = frame.mirror; shift = to }
+shifted_to to frame = record frame { shift = to }
 
 -- the frame of a path that sees X from the other side
 abbrev pub facing_frame : Frame → Frame
-facing_frame frame = record { mirror = true; shift = frame.shift }
+facing_frame frame = record frame { mirror = true }
 
 -- the frames with that of one path changed
 abbrev pub with_frame : Both Frame → Path → (Frame → Frame) → Both Frame

@@ -45,6 +45,7 @@ impl Zones {
         let origin = Point { x: 0, z: 0 };
         let frame = Frame {
             mirror: false,
+            mirror_z: false,
             shift: origin,
         };
         Zones {

@@ -7,11 +7,19 @@
 #![tactic(auto)]
 
 mod cell;
+mod cell_entry;
+mod cell_line;
 mod entry;
+mod finding;
+mod hit_lines;
 mod lines;
 mod named;
+mod plan;
 mod reading;
 
 pub use cell::{Zone, Zones};
+pub use finding::Finding;
+pub use hit_lines::finding_lines;
 pub use lines::{end_line, head_line, zone_line};
+pub use plan::{Plan, read_plan};
 pub use reading::{ZoneFault, read_zones};

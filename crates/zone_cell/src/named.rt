@@ -66,7 +66,7 @@ fn gap(values: &[&[u8]]) -> Option<Entry>
 
 /// What a name and its values say; no other name than these three is allowed.
 #[tactic(auto, unfolding(crate::specs::Entry::named_of))]
-fn named(name: &[u8], values: &[&[u8]]) -> Option<Entry>
+pub(crate) fn named(name: &[u8], values: &[&[u8]]) -> Option<Entry>
     ensures value { result ≡ named_of name.now (texts values.now) }
     ensures allowed { IfSome result IsAllowed }
 {

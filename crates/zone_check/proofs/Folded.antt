@@ -49,7 +49,7 @@ what_by Two One turn = refl
 what_by Two Two turn = what_made turn
 
 -- one record more adds the moves of its turn, with their lines, to its path
-moves_more : (tapes : Tapes) (m : MachineView) (path : Path) (front : List Entry) (e : Entry)
+pub moves_more : (tapes : Tapes) (m : MachineView) (path : Path) (front : List Entry) (e : Entry)
     → moves_of tapes m path (front ++ e ∷ []) ≡ moves_of tapes m path front ++ moves_made_by path (turn_at tapes (fold tapes m front) e)
 unfolding moves_in turns_from
 moves_more tapes m path [] e = append-nil (moves_made_by path (turn_at tapes m e))

@@ -1,8 +1,10 @@
 -- The lemmas of this crate, which no other crate uses: the zones kept are those of the segments
--- (Folded, Going), their text (ZoneByZone), and that paths stand where their moves lead (MovesLead,
+-- (Folded, Going), and what is hit in them (Lapped), their text (ZoneByZone, FindingByFinding), and that paths stand where their moves lead (MovesLead,
 -- TurnsLead).
 mod Folded
+mod Lapped
 mod Going
 mod ZoneByZone
+mod FindingByFinding
 mod MovesLead
 mod TurnsLead

@@ -1,7 +1,7 @@
 //! What a zone says of its segment. Each law is the contract of a function that does nothing: who
 //! calls it has the law.
 //! These laws are for readers: no other crate calls them.
-ghost use Rattle.std.specs.Prelude.{◌≡◌, ◌≤◌, ℕ, List, true};
+ghost use Rattle.std.specs.Prelude.{◌≡◌, ◌≤◌, ℕ, List, None, true};
 ghost use Rattle.nc_number.specs.declared.point.Point.{Point};
 ghost use Rattle.zone_area.specs.Passing.{MayPassSome, IsInside, AreApart, point_in_cell};
 ghost use Rattle.zone_cell.specs.Zones.{ZonesView};
@@ -13,9 +13,14 @@ ghost use Rattle.block_values.specs.Moves.{last_end};
 ghost use Rattle.two_path.specs.Machine.{MachineView};
 ghost use Rattle.two_path.specs.Turns.{tapes_of};
 ghost use Rattle.two_path.specs.Histories.{fold};
+ghost use Rattle.nc_number.specs.declared.path.Path.TheVariants.{One, Two};
+ghost use Rattle.zone_moves.specs.Stretches.{CellView};
+ghost use Rattle.zone_moves.specs.Touching.{Touches, all_moves};
+ghost use Rattle.zone_check.specs.Laps.{Lap, finding_of};
 ghost use Rattle.zone_check.specs.Segments.{Segment, path_moves, zone_of};
 
 use zone_area::{an_area_in_the_cell_holds_what_may_be_passed, clear_areas_keep_apart};
+use zone_moves::clear_moves_keep_apart;
 
 /// Each point that a path may pass in a segment lies in its area, in the cell, however finely
 /// points are counted.
@@ -45,3 +50,15 @@ pub fn moves_lead_to_positions()
         → (of_path (fold (tapes_of left right) m entries).paths path).path.position
         ≡ last_end (of_path m.paths path).path.position (path_moves (tapes_of left right) m path entries) }
 {}
+
+/// In a segment where nothing is hit move by move, any two points that the bodies of the tools may
+/// touch differ by more than the gap in X or in Z, whatever the timing of the moves between these
+/// meetings.
+pub fn clear_laps_keep_apart()
+    ensures { (d : ℕ) (cell : CellView) (lap : Lap) (p q : Point) → 1 ≤ d → (finding_of cell lap).hit ≡ None
+        → Touches all_moves d cell One lap.left_tool lap.left_at lap.left p
+        → Touches all_moves d cell Two lap.right_tool lap.right_at lap.right q
+        → AreApart d cell.gap (point_in_cell d cell.frames.one p) (point_in_cell d cell.frames.two q) }
+{
+    clear_moves_keep_apart();
+}

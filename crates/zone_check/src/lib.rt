@@ -6,15 +6,26 @@
 //! where the machine stands at its meeting; an area holds each point that its path may pass in the
 //! segment, and is the least that does; where a zone is clear, any two points that the paths may
 //! pass there differ by more than the gap in X or in Z, whatever their timing.
+//!
+//! [`findings`] judges the same segments move by move, each move with the body of the tool in force:
+//! its list has of each segment what is hit first, if anything.
 #![tactic(auto)]
 
+mod judging;
 mod laws;
 mod meetings;
 mod standing;
+mod telling;
+mod trailing;
 mod writing;
 
+pub use judging::findings;
 pub use meetings::boxes;
+pub use telling::{write_end, write_findings};
 pub use writing::write_zones;
 
 // For users of the library: laws that no crate of the program takes.
-pub use laws::{a_zone_holds_what_may_be_passed, clear_zones_keep_apart, moves_lead_to_positions};
+pub use laws::{
+    a_zone_holds_what_may_be_passed, clear_laps_keep_apart, clear_zones_keep_apart,
+    moves_lead_to_positions,
+};

@@ -6,6 +6,8 @@
 #![tactic(auto)]
 
 #[cfg(test)]
+mod moves;
+#[cfg(test)]
 mod pairs;
 #[cfg(test)]
 mod row;

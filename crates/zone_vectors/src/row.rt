@@ -25,6 +25,14 @@ pub(crate) fn lines_of(alloc: Global, text: &str) -> Result<Vec<u8>, AllocError>
     Ok(bytes)
 }
 
+/// The bytes of a row's text, behind a line `by moves`.
+pub(crate) fn behind_moves(alloc: Global, text: &str) -> Result<Vec<u8>, AllocError> {
+    let mut bytes = Vec::new(alloc);
+    put_lines(&mut bytes, "by moves~")?;
+    put_lines(&mut bytes, text)?;
+    Ok(bytes)
+}
+
 /// Whether the bytes are those of a row's text.
 pub(crate) fn is_text(alloc: Global, bytes: &[u8], text: &str) -> Result<bool, AllocError> {
     let wanted = lines_of(alloc, text)?;

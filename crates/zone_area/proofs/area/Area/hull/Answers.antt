@@ -1,8 +1,10 @@
 -- The lesser and the greater edges, as they are stored in 64 bits, are those of the hull
 -- (`Area::hull`, src/area.rt).
-use Rattle.std.proofs.Common.{arith}
+use Rattle.std.proofs.Common.{arith, sym, subst}
+use Rattle.zone_area.specs.declared.area.Area.{Area}
 use Rattle.zone_area.specs.Area.{hull_of}
-use Rattle.zone_area.proofs.Squares.{same_area, lesser_stored, greater_stored}
+use Rattle.zone_area.specs.Range.{IsAreaWithin}
+use Rattle.zone_area.proofs.Squares.{same_area, lesser_stored, greater_stored, hull_within}
 use Rattle.zone_area.proofs.area.Area.hull.Goals as goal
 
 pub returns-clause-hull : goal.returns-clause-hull
@@ -26,3 +28,7 @@ returns-clause-hull c =
     (lesser_stored c.lesser-2.result a.low.z b.low.z (omega arith) (omega arith) (omega arith) c.lesser-2.ensures.lesser)
     (greater_stored c.greater.result a.high.x b.high.x (omega arith) (omega arith) (omega arith) c.greater.ensures.greater)
     (greater_stored c.greater-2.result a.high.z b.high.z (omega arith) (omega arith) (omega arith) c.greater-2.ensures.greater)
+
+pub returns-clause-near : goal.returns-clause-near
+returns-clause-near c far mine theirs =
+    subst (λ (area : Area). IsAreaWithin far area) (sym (returns-clause-hull c)) (hull_within far c.args.self.now c.args.other.now mine theirs)

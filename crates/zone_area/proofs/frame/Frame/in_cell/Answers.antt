@@ -18,6 +18,6 @@ returns-clause-area c =
     let shift_z = c.requires.shift.1 in
     same_area _ (area_in_cell frame area)
     (edge_stored frame.mirror _ area.low.x area.high.x frame.shift.x _ _ _ c.edge.ensures.edge (omega (arith, ints)) (omega (arith, ints)) (omega (arith, ints)) c.edge.ensures.near)
-    (omega (arith, ints))
-    (edge_stored frame.mirror _ area.high.x area.low.x frame.shift.x _ _ _ c.edge-2.ensures.edge (omega (arith, ints)) (omega (arith, ints)) (omega (arith, ints)) c.edge-2.ensures.near)
-    (omega (arith, ints))
+    (edge_stored frame.mirror_z _ area.low.z area.high.z frame.shift.z _ _ _ c.edge-2.ensures.edge (omega (arith, ints)) (omega (arith, ints)) (omega (arith, ints)) c.edge-2.ensures.near)
+    (edge_stored frame.mirror _ area.high.x area.low.x frame.shift.x _ _ _ c.edge-3.ensures.edge (omega (arith, ints)) (omega (arith, ints)) (omega (arith, ints)) c.edge-3.ensures.near)
+    (edge_stored frame.mirror_z _ area.high.z area.low.z frame.shift.z _ _ _ c.edge-4.ensures.edge (omega (arith, ints)) (omega (arith, ints)) (omega (arith, ints)) c.edge-4.ensures.near)
