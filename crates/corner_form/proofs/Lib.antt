@@ -1,0 +1,3 @@
+-- The lemmas of corner_form, each file after those that it uses.
+pub mod Halves
+pub mod CornersKeep
