@@ -11,6 +11,9 @@
  *
  * A call writes the front of what it has to say into the room, as much as there is room for, and leaves what lies behind it
  * as it was; *length is that of the whole. So call once with a room of 0, or with a guess, and again if *length is more.
+ *
+ * A call takes up to 400 KiB of its thread's stack, whatever the texts are. Of several statuses that fit the first of this list
+ * comes: 13, 2, 1, and then how the run ended; 12 may come in place of each but 13 and 2. A limit may be any number, 0 too: then a report or a trace has no record.
  */
 #ifndef LATHE_H
 #define LATHE_H
@@ -21,6 +24,13 @@
 #ifdef __cplusplus
 extern "C" {
 #endif
+
+/* The version of these calls. One with the same first number keeps every call and every field; with another it keeps nothing. */
+#define LATHE_VERSION 0x010000
+#define LATHE_VERSION_TEXT "1.0.0"
+
+/* The version of the library that is linked: LATHE_VERSION of its own header. */
+uint32_t lathe_version(void);
 
 /* What a call answers: the exit status of the program for the same texts. */
 enum lathe_status {
@@ -38,6 +48,25 @@ enum lathe_status {
 uint8_t lathe_verify(const uint8_t *left, size_t left_length, const uint8_t *right, size_t right_length,
                      const uint8_t *settings, size_t settings_length,
                      uint8_t *room, size_t room_length, size_t *length);
+
+/* Why texts are refused, and where. All is 0 if they are not. */
+struct lathe_refusal {
+    uint32_t line;    /* the line, counted from 1; 0 if a path has too many labels */
+    uint32_t other;   /* where the waits of both paths differ (72), the line of path 2, and `line` is that of path 1; else 0 */
+    uint32_t after;   /* where the waits differ, how many meetings are before; else 0 */
+    uint8_t number;   /* of the refusal; 0 if there is none */
+    uint8_t path;     /* whose tape it is, 1 or 2; 0 if it is a line of the settings */
+    uint16_t nothing; /* 0 */
+};
+
+/* The verdict as numbers: 0, or 1 and the refusal, whose line lathe_verify writes; 12 or 13, and the refusal is all 0. */
+uint8_t lathe_judge(const uint8_t *left, size_t left_length, const uint8_t *right, size_t right_length,
+                    const uint8_t *settings, size_t settings_length, struct lathe_refusal *refusal);
+
+/* The name of the number of a refusal or an alarm (`WaitMismatch`), and what it means, a sentence in English. Each writes the
+ * front of it into the room, as the other calls do, and answers the length of the whole, at most 512; 0 if there is no such number. */
+size_t lathe_name(uint16_t number, uint8_t *room, size_t room_length);
+size_t lathe_meaning(uint16_t number, uint8_t *room, size_t room_length);
 
 /* The report of the run whose paths take turns, from path 1 on, of at most `limit` records: 0, 1, 3, 10 or 14. */
 uint8_t lathe_run(const uint8_t *left, size_t left_length, const uint8_t *right, size_t right_length,
@@ -58,6 +87,11 @@ uint8_t lathe_state(const uint8_t *left, size_t left_length, const uint8_t *righ
  * which the control has; with least = 1 and greatest = 0 they may lack none. */
 uint8_t lathe_waits(const uint8_t *left, size_t left_length, const uint8_t *right, size_t right_length,
                     const uint8_t *settings, size_t settings_length, uint16_t least, uint16_t greatest,
+                    uint8_t *room, size_t room_length, size_t *length);
+
+/* The races of the pair: the shared variables that one path may write while the other names them. 0 or 1. */
+uint8_t lathe_races(const uint8_t *left, size_t left_length, const uint8_t *right, size_t right_length,
+                    const uint8_t *settings, size_t settings_length,
                     uint8_t *room, size_t room_length, size_t *length);
 
 /* What an event is. */

@@ -54,12 +54,22 @@ static size_t lengths[3];
 
 static uint8_t ask(int what, size_t *length) {
     uint8_t status;
+    struct lathe_refusal refusal;
     switch (what) {
         case 0: return lathe_verify(TEXTS, room, ROOM, length);
         case 1: return lathe_run(TEXTS, 1000, room, ROOM, length);
         case 2: return lathe_trace(TEXTS, 1000, room, ROOM, length);
         case 3: return lathe_state(TEXTS, 1000, room, ROOM, length);
         case 4: return lathe_waits(TEXTS, 1, 0, room, ROOM, length);
+        case 5: return lathe_races(TEXTS, room, ROOM, length);
+        case 6:
+            status = lathe_judge(TEXTS, &refusal);
+            *length = 0;
+            /* (without memory the refusal is all 0, and the room is as it was) */
+            if (status == LATHE_NO_MEMORY) return refusal.number == 0 && refusal.line == 0 ? status : 99;
+            *length = sizeof refusal;
+            memcpy(room, &refusal, sizeof refusal);
+            return status;
         default:
             status = lathe_events(TEXTS, order, TURNS, (struct lathe_event *)(void *)room, EVENTS, length);
             *length *= sizeof(struct lathe_event);
@@ -103,7 +113,7 @@ int main(int count, char **words) {
         fclose(file);
     }
     for (int k = 0; k < TURNS; k++) order[k] = (uint8_t)(1 + k % 2);
-    for (int what = 0; what < 6; what++)
+    for (int what = 0; what < 8; what++)
         if (!refuse_each(what)) return 1;
     return 0;
 }

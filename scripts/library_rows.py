@@ -11,13 +11,24 @@ import time
 
 ROOT, LIBRARY, PROGRAM, WORK = sys.argv[1:]
 EXAMPLES = os.path.join(ROOT, "examples")
-sys.path.insert(0, EXAMPLES)
-import simulator  # noqa: E402
+sys.path.insert(0, os.path.join(ROOT, "python"))
+import twin_lathe  # noqa: E402
 from called_program import FILES, Program  # noqa: E402
 from library_texts import changed_triples, read, triples  # noqa: E402
+from twin_lathe import Answer, Kind  # noqa: E402
 
 CHANGED = 3000
-LATHE, PROGRAM_OF = simulator.Lathe(LIBRARY), Program(PROGRAM, WORK)
+
+
+class Lathe(twin_lathe.Lathe):
+    """The module, whose texts are bytes as the library gave them."""
+
+    def _text(self, name, texts, *more):
+        status, found, length = self._call(name, texts, more, ctypes.c_uint8, 4096)
+        return Answer(status, bytes(found[:length]))
+
+
+LATHE, PROGRAM_OF = Lathe(LIBRARY), Program(PROGRAM, WORK)
 passed = failed = 0
 
 
@@ -29,21 +40,34 @@ def check(name, is_right, said=""):
         print(f"library row FAILED: {name}: {said}"[:400])
 
 
+def says_the_same(why, verdict):
+    """Whether a refusal says as numbers what the line of the verdict says."""
+    if not why:
+        return verdict == (0, b"accepted\n")
+    found = re.fullmatch(rb"refused (\d+) (\w+)(?: path (\d))?(?: line (\d+))?(?: path 2 line (\d+))?(?: after (\d+))?\n", verdict.text)
+    number, name, path, line, other, after = found.groups() if found else [None] * 6
+    due = (why.number, LATHE.name(why.number).encode(), why.path, why.line, why.other, why.after)
+    return due == (int(number or 0), name, int(path or 0), int(line or 0), int(other or 0), int(after or 0))
+
+
 def compare_texts(given):
     """Verdict, meetings and trace of a triple."""
     name, texts = given
-    rows = [(f"{name}: verify", LATHE.verify(*texts), PROGRAM_OF(texts, "verify", *FILES)),
+    verdict, why = LATHE.verify(*texts), LATHE.refusal(*texts)
+    rows = [(f"{name}: judge", Answer(not says_the_same(why, verdict), repr(why).encode()), Answer(False, repr(why).encode())),
+            (f"{name}: verify", verdict, PROGRAM_OF(texts, "verify", *FILES)),
             (f"{name}: waits", LATHE.waits(*texts), PROGRAM_OF.again("waits", *FILES)),
+            (f"{name}: races", LATHE.races(*texts), PROGRAM_OF.again("races", *FILES)),
             (f"{name}: trace", LATHE.trace(*texts, limit=500), PROGRAM_OF.again("trace", "--blocks", "500", *FILES))]
     if name.startswith("changed"):
-        return rows[:1] if rows[0][1].status else rows
+        return rows[:2] if verdict.status else rows
     rows.append((f"{name}: waits outside", LATHE.waits(*texts, least=900, greatest=999),
                  PROGRAM_OF.again("waits", "--outside", "900-999", *FILES)))
     return rows
 
 
 def reads_none(texts):
-    return not any(it.kind == simulator.READ for it in LATHE.events(*texts, bytes([1, 2]) * 20000).list)
+    return not any(it.kind == Kind.READ for it in LATHE.events(*texts, bytes([1, 2]) * 20000).list)
 
 
 # How many runs, lists of events and moves of such lists were compared. Runs that hang on an order of turns are not.
@@ -62,12 +86,12 @@ def compare_run(given):
     return [(f"{name}: run", report, due), (f"{name}: state", LATHE.state(*texts, limit=20000), state)]
 
 
-NAMES = {simulator.RAPIDLY: "rapid", simulator.FEED: "feed", simulator.THREAD: "thread"}
+NAMES = {Kind.RAPID: "rapid", Kind.FEED: "feed", Kind.THREAD: "thread"}
 
 
 def shown(event):
     """A move as a report has it, up to its place; a wait, a meeting and an end as a trace has them."""
-    if event.kind in NAMES or event.kind == simulator.ARC:
+    if event.kind in NAMES or event.kind == Kind.ARC:
         way = NAMES.get(event.kind) or ("cw" if event.clockwise else "ccw")
         return f"{event.line} {way} X{event.x / 1000:.3f} Z{event.z / 1000:.3f}"
     return None
@@ -96,7 +120,7 @@ def check_events(name, texts):
     for order in (bytes([1, 2]), bytes([2, 1]), bytes([1, 1, 1, 2]), bytes([2] * 40 + [1] * 7)):
         status, events = LATHE.events(*texts, order * 4000)
         found = {path: [shown(it) for it in events if it.path == path and shown(it)] for path in (1, 2)}
-        counts = [it.records for it in events if it.kind not in (simulator.PLACED, simulator.READ)]
+        counts = [it.records for it in events if it.kind not in (Kind.PLACED, Kind.READ)]
         is_counted = sorted(set(counts)) == list(range(1, len(set(counts)) + 1)) and counts == sorted(counts)
         check(f"{name}: events {order[:4]}", status == 0 and found == due and is_counted, f"status {status}")
 
@@ -140,7 +164,7 @@ def check_threads(given):
     answers = [None] * 4
 
     def work(number):
-        lathe = simulator.Lathe(LIBRARY)
+        lathe = Lathe(LIBRARY)
         answers[number] = [(lathe.verify(*texts), lathe.trace(*texts, limit=200)) for _, texts in given]
 
     threads = [threading.Thread(target=work, args=(number,)) for number in range(4)]
@@ -153,8 +177,9 @@ def check_threads(given):
 
 
 # The simulator in Python, over the library that is named first.
-IN_PYTHON = """import sys, simulator
-simulator.Lathe.__init__.__defaults__ = (sys.argv[1],)
+IN_PYTHON = """import os, sys
+os.environ["TWIN_LATHE"] = sys.argv[1]
+import simulator
 sys.exit(simulator.main(sys.argv[2:]))"""
 
 

@@ -11,7 +11,7 @@ import sys
 
 import wasm_binary
 
-CALLS = {"lathe_verify", "lathe_run", "lathe_trace", "lathe_state", "lathe_waits", "lathe_events"}
+CALLS = {f"lathe_{it}" for it in ("version", "name", "meaning", "verify", "judge", "run", "trace", "state", "waits", "races", "events")}
 MOST_BYTES = 1000000
 
 

@@ -5,14 +5,17 @@
 //! All answer the same way: the texts are the tape of path 1, the tape of path 2 and the settings;
 //! the result is the exit status; the front of the answer is put into `room`, and its whole length
 //! into `len`. Out of memory has a status of its own.
-ghost use Rattle.std.specs.Prelude.{◌≡◌, Some};
+ghost use Rattle.std.specs.Prelude.{◌≡◌, ℕ, List, Some, length};
+ghost use Rattle.cause_words.specs.Words.{IsNameOf};
 ghost use Rattle.lathe_calls.specs.declared.question.Question.TheVariants as ask;
 ghost use Rattle.lathe_calls.specs.Due.{IsAnswerTo};
 ghost use Rattle.lathe_calls.specs.Order.{AreToldOf};
-ghost use Rattle.lathe_calls.specs.Said.{answer_with};
+ghost use Rattle.lathe_calls.specs.Said.{answer_with, room_with};
+ghost use Rattle.lathe_calls.specs.Weighed.{IsWeighed};
 ghost use Rattle.lathe_calls.specs.Texts.{three_texts};
 
-use lathe_calls::{Event, PairTexts, Question, Said, answer, events};
+use cause_words::{meaning_bytes, name_bytes};
+use lathe_calls::{Event, PairTexts, Question, RefusedAs, Said, answer, events, hand_out, weigh};
 use open_order::Outside;
 use std::alloc::Global;
 
@@ -21,6 +24,53 @@ fn told(it: Said, len: &mut usize) -> u8
     ensures { it ≡ answer_with result len.new }
 {
     *len = it.len;
+    it.status
+}
+
+/// The version of the calls: 256 times 256 times the major number, 256 times the minor one, and the
+/// patch. It is that of `include/lathe.h`, and changes with it.
+const VERSION: u32 = 0x0001_0000;
+
+/// The version of the library that is linked.
+#[unsafe(no_mangle)]
+pub extern "C" fn lathe_version() -> u32
+    ensures { result ≡ 65536 }
+{
+    VERSION
+}
+
+/// The name of the number of a refusal or an alarm; the length is in bytes.
+#[unsafe(no_mangle)]
+pub extern "C" fn lathe_name(number: u16, room: &mut [u8]) -> usize
+    ensures { (bytes : List ℕ) × IsNameOf number bytes
+        × (result ≡ length bytes) × (room.new ≡ room_with bytes room.old) }
+{
+    hand_out(name_bytes(number), room)
+}
+
+/// What the number of a refusal or an alarm means; the length is in bytes.
+#[unsafe(no_mangle)]
+pub extern "C" fn lathe_meaning(number: u16, room: &mut [u8]) -> usize
+    ensures { (bytes : List ℕ) × (result ≡ length bytes) × (room.new ≡ room_with bytes room.old) }
+{
+    hand_out(meaning_bytes(number), room)
+}
+
+/// The verdict as numbers.
+#[unsafe(no_mangle)]
+pub extern "C" fn lathe_judge(
+    alloc: Global,
+    left: &[u8],
+    right: &[u8],
+    settings: &[u8],
+    refusal: &mut RefusedAs,
+) -> u8
+    ensures { IsWeighed (three_texts left.now right.now settings.now)
+        (record { status = result; refusal = refusal.new }) }
+{
+    let texts = PairTexts::of(left, right, settings);
+    let it = weigh(alloc, &texts);
+    *refusal = it.refusal;
     it.status
 }
 
@@ -124,6 +174,23 @@ pub extern "C" fn lathe_waits(
         ),
         len,
     )
+}
+
+/// The races of the pair for shared variables. The length is in bytes.
+#[unsafe(no_mangle)]
+pub extern "C" fn lathe_races(
+    alloc: Global,
+    left: &[u8],
+    right: &[u8],
+    settings: &[u8],
+    room: &mut [u8],
+    len: &mut usize,
+) -> u8
+    ensures { IsAnswerTo ask.Races (three_texts left.now right.now settings.now)
+        room.old room.new (answer_with result len.new) }
+{
+    let texts = PairTexts::of(left, right, settings);
+    told(answer(alloc, &texts, Question::Races, room), len)
 }
 
 /// The events of the run whose paths get their turns in an order: a byte for each turn, 1 or 2. The

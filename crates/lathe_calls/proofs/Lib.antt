@@ -3,6 +3,7 @@ pub mod Ended
 pub mod VerdictTold
 pub mod TurnsTold
 pub mod WaitsTold
+pub mod WeighedTold
 pub mod FitTexts
 pub mod Handed
 pub mod PairTold

@@ -4,6 +4,7 @@ pub mod Statuses
 pub mod Answers
 pub mod Texts
 pub mod Judged
+pub mod Weighed
 pub mod Reported
 pub mod Races
 pub mod Traced

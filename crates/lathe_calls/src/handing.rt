@@ -10,7 +10,7 @@ use crate::said::Said;
 
 /// Copies the front of a text into the room, as far as it holds, and tells how long the whole text
 /// is.
-fn hand_out(text: &[u8], room: &mut [u8]) -> usize
+pub fn hand_out(text: &[u8], room: &mut [u8]) -> usize
     ensures room { room.new ≡ room_with text.now room.old }
     ensures len { result ≡ length text.now }
 {

@@ -23,12 +23,15 @@ mod running;
 mod said;
 mod text_sink;
 mod waiting;
+mod weighing;
 
 pub use answering::{answer, tell};
 pub use ending::{Status, reason_status, status_behind, write_text};
 pub use event::{Event, Kind};
+pub use handing::hand_out;
 pub use happening::events;
 pub use judging::refuse;
 pub use pair_texts::{LONGEST_SETTINGS, PairTexts};
 pub use question::Question;
 pub use said::Said;
+pub use weighing::{RefusedAs, Weighed, weigh};

@@ -1,0 +1,2 @@
+-- Which words go with a number.
+pub mod Words
