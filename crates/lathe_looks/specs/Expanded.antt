@@ -2,18 +2,30 @@
 -- out is in tape_expand.
 use Rattle.std.specs.Prelude.{◌≡◌, ℕ, List, ◌++◌, codes, Option, Ok, Err}
 use Rattle.nc_number.specs.declared.cause.Cause.{Cause}
+use Rattle.cycle_form.specs.Faults.{fault_name}
 use Rattle.text_pieces.specs.Pieces.{name_text, text_with_number}
 use Rattle.nc_verify.specs.Printed.{IsCauseOf}
 use Rattle.tape_expand.specs.declared.fault.ExpandFault.{ExpandFault}
+use Rattle.tape_expand.specs.declared.fault.ExpandFault.TheVariants.{Unreadable, Cycle}
 use Rattle.tape_expand.specs.Expansion.{expansion_of, parts_in, AreClearParts}
 use Rattle.tape_expand.specs.Faults.{expand_line, expand_number}
 use Rattle.lathe_calls.specs.Answers.{Answer, tells, nothing}
 use Rattle.lathe_calls.specs.Statuses as exit
 
+-- The name of a refusal, with a blank before it. A tape that can't be read has the name of its
+-- cause, a cycle its own.
+abbrev pub fault_name_text : Option Cause → ExpandFault → List ℕ
+fault_name_text cause (Unreadable fault) = name_text cause
+fault_name_text cause (Cycle fault) = codes " " ++ fault_name fault
+
+-- The line of the tape at which it is refused, and the end of the line of output.
+unfoldable pub at_line_text : ℕ → List ℕ
+at_line_text line = text_with_number (codes " line ") line ++ codes "\n"
+
 -- A refusal as a line of output, as `refused 93 BadCycle line 5`.
 unfoldable pub refusal_text : Option Cause → ExpandFault → List ℕ
 refusal_text cause fault =
-    ((text_with_number (codes "refused ") (expand_number fault) ++ name_text cause) ++ text_with_number (codes " line ") (expand_line fault)) ++ codes "\n"
+    text_with_number (codes "refused ") (expand_number fault) ++ (fault_name_text cause fault ++ at_line_text (expand_line fault))
 
 -- This text is the line of the refusal, with the name of the cause that has its number.
 abbrev pub IsRefusalText : ExpandFault → List ℕ → Type 0

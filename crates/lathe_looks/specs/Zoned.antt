@@ -1,8 +1,6 @@
 -- What `zones` answers if the text of zones is no good, which zones a file has, and the text that
 -- is shown. A file that can't be read is in Fetched; how zones are found is in zone_check.
-use Rattle.std.specs.Prelude.{◌≡◌, ℕ, List, [], ◌∷◌, Ok, Err}
-use Rattle.nc_number.specs.declared.cause.Cause.TheVariants.{BadZone}
-use Rattle.text_pieces.specs.Refusals.{refused_line_text}
+use Rattle.std.specs.Prelude.{◌≡◌, ℕ, List, [], ◌∷◌, ◌++◌, codes, decimal, Ok, Err}
 use Rattle.nc_outside.specs.Files.{ShelfState}
 use Rattle.nc_restart.specs.Pair.{opening_of, tapes_in}
 use Rattle.nc_verify.specs.declared.verified.Verified.{Verified}
@@ -15,9 +13,10 @@ use Rattle.lathe_calls.specs.Statuses as exit
 use Rattle.lathe_looks.specs.Fetched.{AreHad}
 use Rattle.lathe_looks.specs.Named.{zones_named}
 
--- The line of output for a text of zones whose line `line` is refused.
-abbrev pub bad_zone_text : ℕ → List ℕ
-bad_zone_text line = refused_line_text BadZone line
+-- The line of output for a text of zones whose line `line` is refused, as `refused 92 BadZone line
+-- 2`. The number and the name are those of zone_cell (specs/Faults), and change with them.
+unfoldable pub bad_zone_text : ℕ → List ℕ
+bad_zone_text line = codes "refused 92 " ++ (codes "BadZone line " ++ (decimal line ++ codes "\n"))
 
 -- Status 1 and the first line that is not allowed; or no text, if memory ran out.
 pub data IsUnzoned (text : List ℕ) : Answer → Type 0 where

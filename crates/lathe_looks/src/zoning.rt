@@ -16,11 +16,11 @@ use crate::refusing::tell_unfound;
 use crate::showing::Shown;
 use disk_model::Disk;
 use lathe_calls::{Status, status_behind, write_text};
-use nc_number::{Cause, Failing};
+use nc_number::Failing;
 use nc_outside::{PutFault, Shelf, Sink};
 use nc_restart::{Recovered, recover};
 use std::alloc::Global;
-use text_pieces::refused_at;
+use text_pieces::Piece;
 use zone_cell::{ZoneFault, Zones, read_zones};
 use zone_check::{boxes, write_zones};
 
@@ -58,15 +58,29 @@ fn zones_of_text<K: Sink>(alloc: Global, text: &[u8], out: &mut K) -> Result<Zon
     }
 }
 
-/// Writes the line of the refusal for this fault, and gives the exit status.
+/// Writes the line `refused 92 ..` for this fault, and gives the exit status.
 fn tell_bad_zone<K: Sink>(fault: ZoneFault, out: &mut K) -> u8
     ensures { Ends (IsJust (tells exit.refused (bad_zone_text fault.line))) (K.state out.old) (K.state out.new) result }
 {
     write_text(
         out,
-        refused_at(Cause::BadZone, fault.line).as_slice(),
+        bad_zone_line(fault.line).as_slice(),
         Status::Refused as u8,
     )
+}
+
+/// The line `refused 92 ..` for this line of the text. It takes no memory. The number and the name
+/// are those of `ZoneFault` (zone_cell), and change with them.
+#[tactic(auto, unfolding(crate::specs::Zoned::bad_zone_text))]
+fn bad_zone_line(line: u32) -> Piece
+    ensures { result ≡ bad_zone_text line }
+{
+    let mut piece = Piece::empty();
+    piece.add(b"refused 92 ");
+    piece.add(b"BadZone line ");
+    piece.add_number(u64::from(line));
+    piece.add(b"\n");
+    piece
 }
 
 /// Writes the zones of the run whose journal is on the disk, or why there is none.

@@ -15,12 +15,11 @@ use crate::held::{Ended, Lathe};
 use disk_model::Disk;
 use lathe_calls::{Status, write_text};
 use lathe_looks::tell_unfound;
-use nc_number::Cause;
 use nc_outside::{Sink, Turret};
 use nc_restart::{Recovered, an_image_of_a_run_is_never_bad, recover};
 use run_branch::{BranchFault, branch};
 use std::alloc::Global;
-use text_pieces::{Piece, refused};
+use text_pieces::Piece;
 
 /// Writes the run whose journal the disk has, up to its meeting of this number, as a journal onto
 /// the second disk. No turret is called, and nothing is written to the disk of the run.
@@ -127,11 +126,7 @@ fn tell_unbranched<K: Sink>(fault: BranchFault, out: &mut K) -> u8
 {
     match fault {
         BranchFault::NoMeeting => {
-            write_text(
-                out,
-                refused(Cause::NoMeeting).as_slice(),
-                Status::Refused as u8,
-            )
+            write_text(out, b"refused 95 NoMeeting\n", Status::Refused as u8)
         }
         BranchFault::RunThere => write_text(out, b"run there\n", Status::RunOrNone as u8),
         BranchFault::NewDisk => write_text(out, b"disk fault\n", Status::DiskFault as u8),
