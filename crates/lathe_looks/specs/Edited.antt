@@ -10,7 +10,7 @@ use Rattle.lathe_looks.specs.Fetched.{AreHad}
 use Rattle.lathe_looks.specs.Named.{edits_named}
 
 -- The line of output for a text of edits whose line `line` is refused, as `refused 91 BadEdit line
--- 2`. The number and the name are those of edit_texts (specs/Faults), and change with them.
+-- 2`. The number and the name are those of the table of causes, and change with it.
 unfoldable pub bad_edit_text : ℕ → List ℕ
 bad_edit_text line = codes "refused 91 " ++ (codes "BadEdit line " ++ (decimal line ++ codes "\n"))
 

@@ -14,7 +14,7 @@ use Rattle.lathe_looks.specs.Fetched.{AreHad}
 use Rattle.lathe_looks.specs.Named.{zones_named}
 
 -- The line of output for a text of zones whose line `line` is refused, as `refused 92 BadZone line
--- 2`. The number and the name are those of zone_cell (specs/Faults), and change with them.
+-- 2`. The number and the name are those of the table of causes, and change with it.
 unfoldable pub bad_zone_text : ℕ → List ℕ
 bad_zone_text line = codes "refused 92 " ++ (codes "BadZone line " ++ (decimal line ++ codes "\n"))
 

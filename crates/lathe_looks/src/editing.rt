@@ -62,7 +62,7 @@ fn tell_bad_edit<K: Sink>(fault: EditFault, out: &mut K) -> u8
 }
 
 /// The line `refused 91 ..` for this line of the text. It takes no memory. The number and the name
-/// are those of `EditFault` (edit_texts), and change with them.
+/// are those of the table of causes, and change with it.
 #[tactic(auto, unfolding(crate::specs::Edited::bad_edit_text))]
 fn bad_edit_line(line: u32) -> Piece
     ensures { result ≡ bad_edit_text line }

@@ -70,7 +70,7 @@ fn tell_bad_zone<K: Sink>(fault: ZoneFault, out: &mut K) -> u8
 }
 
 /// The line `refused 92 ..` for this line of the text. It takes no memory. The number and the name
-/// are those of `ZoneFault` (zone_cell), and change with them.
+/// are those of the table of causes, and change with it.
 #[tactic(auto, unfolding(crate::specs::Zoned::bad_zone_text))]
 fn bad_zone_line(line: u32) -> Piece
     ensures { result ≡ bad_zone_text line }

@@ -27,7 +27,7 @@ unfoldable pub branched_text : ℕ → ℕ → List ℕ
 branched_text n k = codes "branched " ++ (decimal n ++ (codes " records " ++ (decimal k ++ codes "\n")))
 
 -- What is told if a branch is not made, by the cause; nothing if memory runs out. The number 95 and
--- its name stand here and in src/branching.rt, and in no other crate.
+-- its name stand here and in src/branching.rt as in the table of causes.
 abbrev pub unbranched_answer : BranchFault → Answer
 unbranched_answer fault.NoMeeting = tells exit.refused (codes "refused 95 NoMeeting\n")
 unbranched_answer fault.RunThere = tells exit.run_or_none (codes "run there\n")
