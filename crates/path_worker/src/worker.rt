@@ -23,26 +23,28 @@ pub enum Why {
 }
 
 /// Sends the moves of a block, in order.
-fn send_all<R: Wait>(line: &mut LineIn<'_, R>, moves: &Moves)
+fn send_all<R: Wait>(rt: &R, line: &mut LineIn, moves: &Moves)
     requires { has_end line.old.items ≡ false }
     ensures line { line.new.line ≡ line.old.line }
     ensures items { line.new.items ≡ line.old.items ++ map Sent (lined_moves moves.now) }
     ensures open { has_end line.new.items ≡ false }
 {
     for what in moves.list.as_slice() {
-        line.send(LinedMove {
+        let what = LinedMove {
             line: moves.line,
             what: *what,
-        });
+        };
+        line.send(rt, what);
     }
 }
 
 /// One step of the path, and what follows its answer: its moves are sent, or the line is drained,
 /// or the end is sent. It says why the worker ends, if it does.
 fn work_once<R: Wait, S: Stepper + Drainable<Drained>>(
+    rt: &R,
     path: Path,
     stepper: &mut S,
-    line: &mut LineIn<'_, R>,
+    line: &mut LineIn,
 ) -> Option<Why>
     requires { has_end line.old.items ≡ false }
     ensures line { line.new.line ≡ line.old.line }
@@ -55,20 +57,20 @@ fn work_once<R: Wait, S: Stepper + Drainable<Drained>>(
     match stepper.step(path) {
         Next::Silent => None,
         Next::Moves(moves) => {
-            send_all(line, &moves);
+            send_all(rt, line, &moves);
             None
         }
         Next::Drain => {
-            let proof = line.drain();
+            let proof = line.drain(rt);
             stepper.drained(path, proof);
             None
         }
         Next::Finished => {
-            line.end_line();
+            line.end_line(rt);
             Some(Why::Finished)
         }
         Next::Halted(why) => {
-            line.end_line();
+            line.end_line(rt);
             Some(Why::Halted(why))
         }
     }
@@ -81,7 +83,7 @@ pub fn run_path<R: Wait, S: Stepper + Drainable<Drained>>(
     rt: &R,
     path: Path,
     stepper: &mut S,
-    line: &mut LineIn<'_, R>,
+    line: &mut LineIn,
 ) -> Why
     requires { has_end line.old.items ≡ false }
     ensures line { line.new.line ≡ line.old.line }
@@ -91,7 +93,7 @@ pub fn run_path<R: Wait, S: Stepper + Drainable<Drained>>(
     ensures origin { S.origin stepper.new ≡ S.origin stepper.old }
 {
     for _ in rt.forever() {
-        if let Some(why) = work_once(path, stepper, line) {
+        if let Some(why) = work_once(rt, path, stepper, line) {
             return why;
         }
     }

@@ -7,3 +7,4 @@ pub mod Draining
 -- cites them, but words of them stand in the contracts of the public `run_pair` and `give_turn`.
 pub mod Rests
 pub mod Seats
+pub mod Jobs

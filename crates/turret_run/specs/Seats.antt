@@ -4,18 +4,23 @@
 use Rattle.std.specs.Prelude.{◌≡◌, true, false, [], IsTrue, Option, is_some}
 use Rattle.atomic_table.specs.Seated.{TableId}
 use Rattle.drive_line.specs.declared.phase.Phase.{Phase}
-use Rattle.drive_line.specs.Driving.{has_failed}
+use Rattle.drive_line.specs.Driving.{DrivenState, has_failed, Serves}
 use Rattle.drive_line.specs.Line.{Sending, Taking}
 use Rattle.nc_number.specs.declared.path.Path.{Path}
 use Rattle.nc_outside.specs.declared.halt.Halt.{Halt}
-use Rattle.seat_table.specs.Passes.{Pass, Halter, fresh_pass, fresh_halter}
+use Rattle.nc_outside.specs.Received.{TurretState}
+use Rattle.path_worker.specs.Drive.{HasSettled}
+use Rattle.seat_table.specs.Passes.{Pass, Halter}
+use Rattle.seat_table.specs.Turning.{moves_in}
 
 -- the two ends of one line to which no move was given yet
 abbrev pub AreNewEnds : Sending → Taking → Type 0
 AreNewEnds sending taking = (sending.line ≡ taking.line) × (sending.items ≡ []) × (taking.items ≡ []) × (taking.asked ≡ false)
 
--- both passes, that of the worker and that of the drive, are of this table and path
-pub record AreOf (table : TableId) (path : Path) (pass : Pass) (halter : Halter) : Type 0 where
+-- What a path came to whose turret began so: both passes, that of the worker and that of the drive,
+-- are of this table and path, and the turret took the moves of the records that the worker's steps
+-- made, or missed them once it had failed.
+pub record IsPathEnd (table : TableId) (path : Path) (start : TurretState) (pass : Pass) (halter : Halter) (driven : DrivenState) : Type 0 where
   -- the worker's pass is of the table
   pub table_is : pass.table ≡ table
   -- the worker's pass is of the path
@@ -24,13 +29,12 @@ pub record AreOf (table : TableId) (path : Path) (pass : Pass) (halter : Halter)
   pub halter_table : halter.table ≡ table
   -- the drive's pass is of the path
   pub halter_path : halter.path ≡ path
-
--- both passes are new: no step was made by them, and they halted nothing
-pub record AreFresh (table : TableId) (path : Path) (pass : Pass) (halter : Halter) : Type 0 where
-  -- the worker's pass lists no step
-  pub pass_is : pass ≡ fresh_pass table path
-  -- the drive's pass has halted nothing
-  pub halter_is : halter ≡ fresh_halter table path
+  -- the turret took the moves of the records, or missed them
+  pub serves : Serves (moves_in pass.records) start driven
+  -- the turret stands still, or its fault has halted the run
+  pub rest : HasSettled driven.phase
+  -- if the turret failed, the table has halted
+  pub halted : has_failed driven.phase ≡ true → IsTrue (is_some halter.stop)
 
 -- if the turret failed, the table has halted for a reason
 abbrev pub StopsBy : Phase → Option Halt → Type 0

@@ -16,16 +16,19 @@
 
 mod crossing;
 mod ending;
+mod gathering;
+mod jobs;
 mod pair;
 mod placing;
 mod rest;
 mod run;
-mod threads;
+mod sharing;
 mod turns;
 
 pub use ending::TurretRun;
 pub use run::run_with_turrets;
 
 // For users of the library: both paths of any table, and single turns of them.
+pub use gathering::{Crew, gather};
 pub use pair::{Ran, Unrun, run_pair};
 pub use turns::give_turn;

@@ -1,25 +1,28 @@
-//! Both paths at once: a worker and a drive for each, in four threads. What they leave undone is in
-//! rest.rt. For run.rt of this crate.
-ghost use Rattle.std.specs.Prelude.{◌≡◌, [], true, IfOk, IfErr, IsTrue, is_some};
+//! Both paths at once: a worker and a drive for each, in the threads of a crew and that of the
+//! caller. What they leave undone is in rest.rt. For run.rt of this crate.
+ghost use Rattle.std.specs.Prelude.{◌≡◌, [], true, IfOk, IfErr};
 ghost use Rattle.nc_number.specs.declared.path.Path.{Path as OnePath};
 ghost use Rattle.nc_number.specs.declared.path.Path.TheVariants.{One, Two};
-ghost use Rattle.drive_line.specs.Driving.{has_failed, Serves};
+ghost use Rattle.drive_line.specs.Driving.{Serves};
 ghost use Rattle.path_worker.specs.Drive.{HasSettled};
 ghost use Rattle.seat_table.specs.Turning.{moves_in};
-ghost use Rattle.turret_run.specs.Seats.{AreNewEnds, AreOf, AreFresh, StopsBy};
+ghost use Rattle.atomic_table.specs.Seated.{TableId};
+ghost use Rattle.drive_line.specs.Line.{LineId, has_end};
+ghost use Rattle.nc_outside.specs.Received.{TurretState};
+ghost use Rattle.seat_table.specs.Passes.{fresh_pass, fresh_halter};
+ghost use Rattle.turret_run.specs.Jobs.{Worked, Drove};
+ghost use Rattle.turret_run.specs.Seats.{IsPathEnd, StopsBy};
 
-use drive_line::{Driven, Line, LineIn, LineOut};
+use crate::gathering::Crew;
+use crate::jobs::{DriveEnd, DriveJob, WorkerEnd, WorkerJob, work_path};
+use drive_line::{Driven, close_line};
+use kept_threads::Order;
 use nc_number::{Both, Path};
 use nc_outside::Turret;
-use path_worker::{Lane, run_lane};
 use seat_table::{HaltPass, SeatPass, SeatTable, Seated, Turns};
 use std::alloc::Global;
 use std::sync::Wait;
-use std::thread;
 use std::thread::Threads;
-
-/// How many moves a drive line holds before its worker has to wait.
-const BOUND: usize = 64;
 
 /// What a run of both paths leaves.
 #[derive(Drop)]
@@ -39,116 +42,124 @@ pub struct Unrun<C: Turns, T: Turret> {
     pub turrets: Both<T>,
 }
 
-/// What the two threads of a path give back.
+/// What the worker and the drive of a path gave back, with their line closed.
 #[derive(Drop)]
-struct Seat<C, T: Turret> {
+struct PathEnd<C, T: Turret> {
     /// The pass by which the worker stepped its path.
     pass: SeatPass<C>,
-    /// The pass by which the drive may halt the run.
+    /// The pass by which the drive might halt the run.
     halter: HaltPass<C>,
     /// The turret, with what it took and missed.
     driven: Driven<T>,
 }
 
-/// Runs the worker and the drive of a path, over its passes and the two ends of a new line. Gives
-/// back the passes and the turret with what it took.
-fn run_seat<R, C, T>(
-    rt: &R,
-    table: &SeatTable<C>,
-    path: Path,
-    ends: (LineIn<'_, R>, LineOut<'_, R, T>),
-    passes: (SeatPass<C>, HaltPass<C>),
-    turret: T,
-) -> Seat<C, T>
-where
-    R: Threads + Wait + Sync,
-    C: Turns + Send,
-    T: Turret + Send,
-    requires line { AreNewEnds ends.0 ends.1 }
-    requires passes { AreFresh table.now path passes.0 passes.1 }
-    ensures passes { AreOf table.now path result.pass result.halter }
-    ensures serves { Serves (moves_in result.pass.records) (T.state turret) result.driven }
-    ensures rest { HasSettled result.driven.phase }
-    ensures halted { has_failed result.driven.phase ≡ true → IsTrue (is_some result.halter.stop) }
+/// Puts together what the worker and the drive of a path gave back. The turret took the moves of
+/// the records that the worker's steps made.
+fn end_path<C, T: Turret>(worker: WorkerEnd<C>, drive: DriveEnd<C, T>) -> PathEnd<C, T>
+    requires line { worker.line.line ≡ drive.line.line }
+    requires ended { has_end drive.line.items ≡ true }
+    ensures { (table : TableId) (path : OnePath) (line : LineId) (start : TurretState)
+        → Worked table path line worker.pass worker.line
+        → Drove table path line start drive.pass drive.line drive.driven
+        → IsPathEnd table path start result.pass result.halter result.driven }
 {
-    let (pass, halter) = passes;
-    let lane = Lane {
-        stepper: table.stepper(rt, pass),
-        halter: table.halter(rt, halter),
-        driven: Driven::new(turret),
-    };
-    let end = run_lane(rt, path, ends, lane);
-    Seat {
-        pass: end.stepper.into_pass(),
-        halter: end.halter.into_pass(),
-        driven: end.driven,
+    let WorkerEnd {
+        pass,
+        line: sending,
+    } = worker;
+    let DriveEnd {
+        pass: halter,
+        line: taking,
+        driven,
+    } = drive;
+    close_line(sending, taking);
+    PathEnd {
+        pass,
+        halter,
+        driven,
     }
 }
 
-/// Runs both paths, each over its passes and a new line, and closes the table. Gives back the table
-/// and both turrets.
-fn run_seats<R, C, T>(
-    rt: &R,
-    seated: Seated<C>,
-    ends: Both<(LineIn<'_, R>, LineOut<'_, R, T>)>,
-    turrets: Both<T>,
-) -> Ran<C, T>
+/// Runs both paths over the seats of a table, each with its turret and a line, in the threads of
+/// the crew and that of the caller, and closes the table. Gives back the table and both turrets.
+fn run_seats<R, C, T>(rt: &R, crew: Crew<R, C, T>, seated: Seated<C>, turrets: Both<T>) -> Ran<C, T>
 where
-    R: Threads + Wait + Sync,
-    C: Turns + Send,
-    T: Turret + Send,
-    requires lines { AreNewEnds ends.one.0 ends.one.1 × AreNewEnds ends.two.0 ends.two.1 }
-    requires passes { AreFresh seated.table One seated.first seated.first_halt
-        × AreFresh seated.table Two seated.second seated.second_halt }
+    R: Threads + Wait,
+    C: Turns + Drop,
+    T: Turret,
+    requires passes { (seated.first ≡ fresh_pass seated.table One) × (seated.second ≡ fresh_pass seated.table Two) }
+    requires halters { (seated.first_halt ≡ fresh_halter seated.table One)
+        × (seated.second_halt ≡ fresh_halter seated.table Two) }
     ensures one { Serves (moves_in (C.records result.table One)) (T.state turrets.one) result.turrets.one }
     ensures two { Serves (moves_in (C.records result.table Two)) (T.state turrets.two) result.turrets.two }
     ensures rest { HasSettled result.turrets.one.phase × HasSettled result.turrets.two.phase }
     ensures halted { StopsBy result.turrets.one.phase (C.reason result.table)
         × StopsBy result.turrets.two.phase (C.reason result.table) }
 {
+    let Crew {
+        mut worker,
+        mut first,
+        mut second,
+        bench,
+        one: (one_in, one_out),
+        two: (two_in, two_out),
+    } = crew;
     let Seated {
         table,
-        first,
-        second,
-        first_halt,
-        second_halt,
+        first: one_pass,
+        second: two_pass,
+        first_halt: one_halt,
+        second_halt: two_halt,
     } = seated;
-    let Both {
-        one: first_ends,
-        two: second_ends,
-    } = ends;
     let Both {
         one: left,
         two: right,
     } = turrets;
-    let both = &table;
-    let (one, two) = thread::join(
+    let bench = bench.with(rt, table);
+    worker.tell(
         rt,
-        move || -> Seat<C, T>
-            requires { AreNewEnds first_ends.0 first_ends.1 × AreFresh both.now One first first_halt }
-            ensures passes { AreOf both.entry.now One result.pass result.halter }
-            ensures serves { Serves (moves_in result.pass.records) (T.state left) result.driven }
-            ensures rest { HasSettled result.driven.phase }
-            ensures halted { has_failed result.driven.phase ≡ true → IsTrue (is_some result.halter.stop) }
-        { run_seat(rt, both, Path::One, first_ends, (first, first_halt), left) },
-        move || -> Seat<C, T>
-            requires { AreNewEnds second_ends.0 second_ends.1 × AreFresh both.now Two second second_halt }
-            ensures passes { AreOf both.entry.now Two result.pass result.halter }
-            ensures serves { Serves (moves_in result.pass.records) (T.state right) result.driven }
-            ensures rest { HasSettled result.driven.phase }
-            ensures halted { has_failed result.driven.phase ≡ true → IsTrue (is_some result.halter.stop) }
-        {
-            run_seat(
-                rt,
-                both,
-                Path::Two,
-                second_ends,
-                (second, second_halt),
-                right,
-            )
-        },
+        Order::Work(WorkerJob {
+            bench: bench.share(rt),
+            path: Path::One,
+            pass: one_pass,
+            line: one_in,
+        }),
     );
-    let table = table.close(one.pass, two.pass, one.halter, two.halter);
+    first.tell(
+        rt,
+        Order::Work(DriveJob {
+            bench: bench.share(rt),
+            path: Path::One,
+            pass: one_halt,
+            line: one_out,
+            turret: left,
+        }),
+    );
+    second.tell(
+        rt,
+        Order::Work(DriveJob {
+            bench: bench.share(rt),
+            path: Path::Two,
+            pass: two_halt,
+            line: two_out,
+            turret: right,
+        }),
+    );
+    let own = WorkerJob {
+        bench: bench.share(rt),
+        path: Path::Two,
+        pass: two_pass,
+        line: two_in,
+    };
+    let two_sent = work_path(rt, own);
+    let one_sent = worker.finish(rt);
+    let one_taken = first.finish(rt);
+    let two_taken = second.finish(rt);
+    let one = end_path(one_sent, one_taken);
+    let two = end_path(two_sent, two_taken);
+    let table = bench
+        .into_table(rt)
+        .close(one.pass, two.pass, one.halter, two.halter);
     Ran {
         table,
         turrets: Both {
@@ -159,22 +170,23 @@ where
 }
 
 /// Runs both paths of a table that has made no record since it was opened, until each path has
-/// ended or the run has stopped: a worker and a drive for each, in four threads. After it each
-/// turret has taken the moves of its path's records, and stands still; the table gives those
-/// records since it was opened. Or the turret failed, and then the table has halted.
+/// ended or the run has stopped: a worker and a drive for each, in the threads of the crew and that
+/// of the caller. After it each turret has taken the moves of its path's records, and stands still;
+/// the table gives those records since it was opened. Or the turret failed, and then the table has
+/// halted.
 ///
-/// If memory runs out nothing is done, and all comes back. If no thread can be made it may not
-/// return.
+/// If memory runs out nothing is done, and all comes back.
 pub fn run_pair<R, C, T>(
     rt: &R,
     alloc: Global,
+    crew: Crew<R, C, T>,
     table: C,
     turrets: Both<T>,
 ) -> Result<Ran<C, T>, Unrun<C, T>>
 where
-    R: Threads + Wait + Sync,
-    C: Turns + Send,
-    T: Turret + Send,
+    R: Threads + Wait,
+    C: Turns + Drop,
+    T: Turret,
     requires fresh { (p : OnePath) → C.records table p ≡ [] }
     ensures one { IfOk result (λ r. Serves (moves_in (C.records r.table One)) (T.state turrets.one) r.turrets.one) }
     ensures two { IfOk result (λ r. Serves (moves_in (C.records r.table Two)) (T.state turrets.two) r.turrets.two) }
@@ -183,14 +195,11 @@ where
         × StopsBy r.turrets.two.phase (C.reason r.table)) }
     ensures err { IfErr result (λ u. (u.table ≡ table) × (u.turrets ≡ turrets)) }
 {
-    let Ok(one) = Line::new(rt, alloc, BOUND) else {
-        return Err(Unrun { table, turrets });
-    };
-    let Ok(two) = Line::new(rt, alloc, BOUND) else {
-        return Err(Unrun { table, turrets });
-    };
     match SeatTable::new(alloc, table) {
-        Ok(seated) => Ok(run_seats(rt, seated, Both { one, two }, turrets)),
-        Err(table) => Err(Unrun { table, turrets }),
+        Ok(seated) => Ok(run_seats(rt, crew, seated, turrets)),
+        Err(table) => {
+            crew.dismiss(rt);
+            Err(Unrun { table, turrets })
+        }
     }
 }

@@ -10,8 +10,29 @@ use std::alloc::Global;
 use std::sync::Wait;
 use std::sync::atomic::AtomicU64;
 use std::test::Fail;
-use std::thread::Threads;
-use turret_run::{Ran, give_turn, run_pair};
+use std::thread;
+use std::thread::{Scope, Threads};
+use turret_run::{Ran, gather, give_turn, run_pair};
+
+/// Runs both paths of a table, with threads of this scope.
+fn run_in<'s, 'a: 's, E, R, T>(
+    rt: &'s R,
+    alloc: Global,
+    scope: &Scope<'s, E>,
+    table: CodeTable<'a>,
+    turrets: Both<T>,
+) -> Result<Ran<CodeTable<'a>, T>, NoMemory>
+where
+    R: Threads + Wait + Sync + 's,
+    T: Turret + Send + 's,
+    requires { (table.first.items ≡ []) × (table.second.items ≡ []) }
+{
+    let crew = gather(rt, alloc, scope)?;
+    match run_pair(rt, alloc, crew, table, turrets) {
+        Ok(ran) => Ok(ran),
+        Err(_) => Err(NoMemory),
+    }
+}
 
 /// Runs both paths of a table.
 fn run<'a, R: Threads + Wait + Sync, T: Turret + Send>(
@@ -22,10 +43,13 @@ fn run<'a, R: Threads + Wait + Sync, T: Turret + Send>(
 ) -> Result<Ran<CodeTable<'a>, T>, NoMemory>
     requires { (table.first.items ≡ []) × (table.second.items ≡ []) }
 {
-    match run_pair(rt, alloc, table, turrets) {
-        Ok(ran) => Ok(ran),
-        Err(_) => Err(NoMemory),
-    }
+    thread::scope(
+        thread::scope_env(),
+        rt,
+        move |scope| -> Result<Ran<CodeTable<'_>, T>, NoMemory>
+            requires { (table.first.items ≡ []) × (table.second.items ≡ []) }
+        { run_in(rt, alloc, scope, table, turrets) },
+    )
 }
 
 /// Runs path 1 up to 500 records, with a turret that fails at that call or at that settle. It
