@@ -164,7 +164,7 @@ fault_of_setting() {
             count = split(text, word, /[ \t]+/)
             if (word[1] == "") { for (k = 1; k < count; k++) word[k] = word[k + 1]; count-- }
             if (text ~ /^[ \t]*%/ || text ~ /^[ \t]*[ON][0-9]/ || text ~ /^[ \t]*[GM][0-9]/) found(word[1], "this is a tape, and no settings; the order is LEFT RIGHT SETTINGS")
-            shape["wait"] = 3; shape["paths"] = 2; shape["codes"] = 2; shape["skip"] = 3; shape["place"] = 4; shape["home"] = 4
+            shape["wait"] = 3; shape["paths"] = 2; shape["codes"] = 2; shape["skip"] = 3; shape["unskip"] = 3; shape["place"] = 4; shape["home"] = 4
             shape["work"] = 5; shape["tool"] = 5; shape["wear"] = 5; shape["shared100"] = 2; shape["shared500"] = 2; shape["records"] = 2
             for (k = 2; k <= count; k++)
                 if (word[k] ~ /^[#;(\/]/) found(word[k], "a comment needs a line of its own that begins with (")
@@ -172,7 +172,7 @@ fault_of_setting() {
                 if (tolower(word[1]) in shape) found(word[1], "names of settings are written in small letters: " tolower(word[1]))
                 found(word[1], "no setting has this name, as far as this text knows; examples/cell.txt has each")
             }
-            if (word[1] ~ /^(wait|skip)$/ && word[2] ~ /^[0-9]+-[0-9]+$/) found(word[2], "two numbers with a blank between are due")
+            if (word[1] ~ /^(wait|skip|unskip)$/ && word[2] ~ /^[0-9]+-[0-9]+$/) found(word[2], "two numbers with a blank between are due")
             if (word[1] ~ /^(place|home|work|tool|wear)$/ && count >= 3 && !is_point(word[count - 1], word[count]))
                 found(word[count], "a point is due at the end of the line: X.. and Z.., both, in this order")
             if (count > shape[word[1]]) found(word[shape[word[1]] + 1], "nothing more is due on this line")
@@ -186,7 +186,7 @@ fault_of_setting() {
 looks_like_settings() {
     [[ -f $1 ]] && awk '
         /^[ \t\r]*$/ || /^\(/ { next }
-        { if ($1 ~ /^(wait|paths|codes|skip|place|home|work|tool|wear|shared100|shared500|records)$/) found = 1; exit }
+        { if ($1 ~ /^(wait|paths|codes|skip|unskip|place|home|work|tool|wear|shared100|shared500|records)$/) found = 1; exit }
         END { exit !found }' "$1"
 }
 
@@ -219,7 +219,7 @@ read_answer() {
     if [[ $1 =~ path\ ([12])\ line\ ([0-9]+)(\ path\ ([12])\ line\ ([0-9]+)(\ after\ ([0-9]+))?)? ]]; then
         file=$(tape_of "${BASH_REMATCH[1]}") at=${BASH_REMATCH[2]} other_at=${BASH_REMATCH[5]} after=${BASH_REMATCH[7]}
         [[ -z $other_at ]] || other_file=$(tape_of "${BASH_REMATCH[4]}")
-    elif [[ $1 =~ \ path\ ([12])$ ]]; then
+    elif [[ $1 =~ \ path\ ([12])(\ skip\ .*)?$ ]]; then
         file=$(tape_of "${BASH_REMATCH[1]}")
     elif [[ $1 =~ \ line\ ([0-9]+)$ ]]; then
         at=${BASH_REMATCH[1]}

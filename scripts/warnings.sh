@@ -59,7 +59,7 @@ waits_behind_stroke() {
                 if (list[k] + 0 >= low + 0 && list[k] + 0 <= high + 0 && ++count == 1) { line = $1; word = "M" list[k] }
         }
         END {
-            if (count) printf "%s%s%s%s%s%s%s of this tape behind a `/`: with that switch on the path does not wait at %s; the verdict is that of the switches in the settings\n", \
+            if (count) printf "%s%s%s%s%s%s%s of this tape behind a `/`: with that switch on the path does not wait at %s; the verdict is that of the switches in the settings, `waits` judges each position\n", \
                 file, sign, line, sign, word, sign, count == 1 ? "a wait" : count " waits", word
         }'
 }
@@ -97,7 +97,7 @@ warnings() {
     for path in 1 2; do
         numbers_without_point "$(tape_of "$path")"
         looks_like_system_b "$(tape_of "$path")"
-        waits_behind_stroke "$(tape_of "$path")"
+        [[ $command == waits ]] || waits_behind_stroke "$(tape_of "$path")"
         [[ $command == waits ]] || blocks_that_stop "$(tape_of "$path")"
     done
 }

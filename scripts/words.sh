@@ -227,6 +227,11 @@ path stands at one; then both go on. At M02 and M30 it stays. Anything else is
 an alarm that stops both paths. The line `goes on` names every code and program
 for which only this assumption speaks: see that no parameter makes such a code a
 call.
+
+It judges every position of the block skip switches that the tapes name and that
+no line of the settings (skip, unskip) fixes. `skip 1 ..` says that waits or ends
+depend on switch 1: it must stand the same for both paths, and must not be
+turned while these blocks are read.
 END
             ;;
         races)

@@ -102,7 +102,7 @@ use Rattle.lathe_top.specs.Done as done
 use Rattle.lathe_top.specs.Done.{Call, command_of, IsDue, IsDueTo, Serves, ServesFiles, ServesKind}
 use Rattle.lathe_top.proofs.Agreed.{Agree, agree_nothing}
 use Rattle.lathe_top.proofs.RunsFound.{least_is}
-use Rattle.lathe_top.proofs.OneMeeting.{one_text}
+use Rattle.wait_verify.proofs.OneTold.{one_text}
 use Rattle.lathe_top.proofs.OneRaces.{races_of_once, same_races}
 
 -- the law that no three texts are both accepted and refused

@@ -8,7 +8,6 @@ pub mod Opened
 pub mod RunsBegun
 pub mod RunsFound
 pub mod Agreed
-pub mod OneMeeting
 mod OneRaces
 mod ZonesDue
 mod EditsDue

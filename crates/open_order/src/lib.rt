@@ -9,6 +9,7 @@
 mod code;
 mod contour;
 mod cycles;
+mod hanging;
 mod laws;
 mod ordering;
 mod outside;
@@ -16,6 +17,7 @@ mod premises;
 mod reading;
 mod trusting;
 
+pub use hanging::Hanging;
 pub use ordering::open_order;
 pub use outside::Outside;
 pub use premises::Premises;
