@@ -94,6 +94,9 @@ uint8_t lathe_races(const uint8_t *left, size_t left_length, const uint8_t *righ
                     const uint8_t *settings, size_t settings_length,
                     uint8_t *room, size_t room_length, size_t *length);
 
+/* A tape with its roughing cycles (G71, G70) written out as plain blocks, as the program's `expand`: 0, or 1 and the line of the refusal. */
+uint8_t lathe_expand(const uint8_t *tape, size_t tape_length, uint8_t *room, size_t room_length, size_t *length);
+
 /* What an event is. */
 enum lathe_kind {
     LATHE_PLACED = 0,   /* the turret stands at x, z before the first block of its path */
@@ -111,7 +114,11 @@ enum lathe_kind {
     LATHE_MET = 12,     /* the path came to its wait, at which the other one waits, and both go on; code */
     LATHE_ENDED = 13,   /* the path has ended */
     LATHE_RAISED = 14,  /* the path raised an alarm, which stops both; code, and value of a macro alarm */
-    LATHE_READ = 15     /* the block read the shared variable #amount, and is not done yet; it makes no record */
+    LATHE_READ = 15,    /* the block read the shared variable #amount, and is not done yet; it makes no record */
+    LATHE_SHIFT = 16,   /* the shift in force is x, z, where a path begins and where a block changed it: work coordinates are machine
+                         * coordinates less the shift; before the moves of its block */
+    LATHE_HOME = 17,    /* the path comes home at x, z; once, where it begins */
+    LATHE_WAY = 18      /* the block changed whether the speed is at the surface, and says no speed; at_surface */
 };
 
 /* An event of a run. What its kind has no use for is 0. Points are in machine coordinates, in 0.001 mm; x is a diameter, i and k
@@ -132,8 +139,8 @@ struct lathe_event {
     int64_t value;          /* the feed or lead, or what a macro alarm was given, in millionths */
 };
 
-/* The events of the run whose paths get their turns in an order, a byte for each turn, 1 or 2: first where both turrets begin,
- * and then what each turn came to. A turn is a block, a read of a shared variable, or nothing: a path that waits or has ended
+/* The events of the run whose paths get their turns in an order, a byte for each turn, 1 or 2: first of each path where its turret
+ * stands, where it comes home and the shift, and then what each turn came to. A turn is a block, a read of a shared variable, or nothing: a path that waits or has ended
  * is passed over, and so are both behind an alarm or with as many records as the settings allow. The room and *length count
  * events. 0 both paths have ended, 3 an alarm, 10 the order is over, 14 as many records as the settings allow; without an
  * event 1, 2, 12 or 13.

@@ -104,6 +104,11 @@ std::string word(Call &&call, std::uint16_t number) {
     return detail::told([&](auto *room, auto size, auto *length) { return lathe_races(LATHE_TEXTS_OF(of), room, size, length); });
 }
 
+/// A tape with its roughing cycles written out as plain blocks.
+[[nodiscard]] inline answer expand(std::string_view tape) {
+    return detail::told([&](auto *room, auto size, auto *length) { return lathe_expand(detail::bytes(tape), tape.size(), room, size, length); });
+}
+
 /// The events of the run whose paths get their turns in an order, a byte for each turn, 1 or 2.
 [[nodiscard]] inline happened events(const texts &of, const std::vector<std::uint8_t> &order, std::size_t guess = 1024) {
     happened it{LATHE_DONE, std::vector<lathe_event>(guess)};

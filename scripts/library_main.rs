@@ -3,7 +3,7 @@
 mod exports;
 
 use exports::{
-    lathe_events, lathe_judge, lathe_meaning, lathe_name, lathe_races, lathe_run, lathe_state, lathe_trace, lathe_verify, lathe_version,
+    lathe_events, lathe_expand, lathe_judge, lathe_meaning, lathe_name, lathe_races, lathe_run, lathe_state, lathe_trace, lathe_verify, lathe_version,
     lathe_waits,
 };
 use lathe_calls::{PairTexts, weigh};
@@ -18,6 +18,7 @@ fn main(rt: HostRuntime) {
     let _len = lathe_name(72, &mut room);
     let _len = lathe_meaning(72, &mut room);
     let _status = lathe_judge(alloc, text, text, b"", &mut refusal);
+    let _status = lathe_expand(alloc, text, &mut room, &mut len);
     let _status = lathe_races(alloc, text, text, b"", &mut room, &mut len);
     let _status = lathe_verify(alloc, text, text, b"", &mut room, &mut len);
     let _status = lathe_run(alloc, text, text, b"", 100, &mut room, &mut len);

@@ -109,18 +109,34 @@ def moves_of(report):
     return found
 
 
+def changes_of(trace, path):
+    """The shifts, the way home and the ways of the spindle of a path in a trace."""
+    return [it.split(" ", 2)[2] for it in trace.decode().split("\n") if re.match(rf"{path} \d+ (shift|home|spindle) ", it)]
+
+
+def shown_change(event):
+    """A shift, a way home or a way of the spindle as a trace has it."""
+    if event.kind in (Kind.SHIFT, Kind.HOME):
+        return f"{Kind(event.kind).name.lower()} X{event.x / 1000:.3f} Z{event.z / 1000:.3f}"
+    return ("spindle G96" if event.at_surface else "spindle G97") if event.kind == Kind.WAY else None
+
+
 def check_events(name, texts):
     """The moves of each path are those of the report, in whatever order the turns come."""
     report = LATHE.run(*texts, limit=2000)
     if report.status != 0 or not reads_none(texts):
         return
     due = moves_of(report.text)
+    trace = LATHE.trace(*texts, limit=2000).text
+    changes = {path: changes_of(trace, path) for path in (1, 2)}
     compared["lists of events"] += 1
     compared["moves"] += sum(map(len, due.values()))
     for order in (bytes([1, 2]), bytes([2, 1]), bytes([1, 1, 1, 2]), bytes([2] * 40 + [1] * 7)):
         status, events = LATHE.events(*texts, order * 4000)
         found = {path: [shown(it) for it in events if it.path == path and shown(it)] for path in (1, 2)}
-        counts = [it.records for it in events if it.kind not in (Kind.PLACED, Kind.READ)]
+        found_changes = {path: [shown_change(it) for it in events if it.path == path and shown_change(it)] for path in (1, 2)}
+        check(f"{name}: shifts and ways {order[:4]}", found_changes == changes, f"{found_changes} {changes}")
+        counts = [it.records for it in events if it.kind != Kind.READ and it.records > 0]
         is_counted = sorted(set(counts)) == list(range(1, len(set(counts)) + 1)) and counts == sorted(counts)
         check(f"{name}: events {order[:4]}", status == 0 and found == due and is_counted, f"status {status}")
 
@@ -144,6 +160,15 @@ def check_rooms(name, texts):
     check(f"{name}: no room and no settings", (status, length.value) == (due.status, len(due.text)), f"status {status}")
 
 
+def check_expand():
+    """Written-out tapes, and refused ones, as the program writes them."""
+    for name in sorted(it for it in os.listdir(EXAMPLES) if it.endswith(".nc")):
+        tape = read(name)
+        due = PROGRAM_OF((tape, b"", b""), "expand", "left")
+        check(f"expand {name}", LATHE.expand(tape) == due, f"{due.status} is due")
+    check("expand: a tape that is too long", LATHE.expand(b"%" * 4194305) == (13, b""))
+
+
 def check_refusals():
     texts = read("upper.nc"), read("lower.nc"), read("cell.txt")
     for place, size in ((0, 4194305), (1, 4194305), (2, 65537)):
@@ -155,7 +180,7 @@ def check_refusals():
     check("an order with a 3", LATHE.events(*texts, b"\1\2\3") == (2, []))
     check("an order with a 0", LATHE.events(*texts, b"\0") == (2, []))
     check("refused texts have no event", LATHE.events(read("deadlock_upper.nc"), read("deadlock_lower.nc"), b"", b"\1") == (1, []))
-    check("no turn", [it.kind for it in LATHE.events(*texts, b"").list] == [0, 0])
+    check("no turn", [it.kind for it in LATHE.events(*texts, b"").list] == [Kind.PLACED, Kind.HOME, Kind.SHIFT] * 2)
 
 
 def check_threads(given):
@@ -212,6 +237,7 @@ def main():
     for what, count in compared.items():
         check(f"{what} are compared", count > 0, "there are none")
     check_refusals()
+    check_expand()
     check_threads(given)
     check_simulators()
     ran = subprocess.run([os.path.join(WORK, "memory"), "upper.nc", "lower.nc", "cell.txt"], cwd=EXAMPLES, stdout=subprocess.PIPE)

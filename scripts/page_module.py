@@ -11,7 +11,7 @@ import sys
 
 import wasm_binary
 
-CALLS = {f"lathe_{it}" for it in ("version", "name", "meaning", "verify", "judge", "run", "trace", "state", "waits", "races", "events")}
+CALLS = {f"lathe_{it}" for it in ("version", "name", "meaning", "verify", "judge", "run", "trace", "state", "waits", "races", "expand", "events")}
 MOST_BYTES = 1000000
 
 

@@ -13,9 +13,12 @@ ghost use Rattle.lathe_calls.specs.Order.{AreToldOf};
 ghost use Rattle.lathe_calls.specs.Said.{answer_with, room_with};
 ghost use Rattle.lathe_calls.specs.Weighed.{IsWeighed};
 ghost use Rattle.lathe_calls.specs.Texts.{three_texts};
+ghost use Rattle.lathe_looks.specs.Expanded.{IsExpanded};
+ghost use Rattle.lathe_looks.specs.Lent.{IsSaidOfTape};
 
 use cause_words::{meaning_bytes, name_bytes};
 use lathe_calls::{Event, PairTexts, Question, RefusedAs, Said, answer, events, hand_out, weigh};
+use lathe_looks::answer_expanded;
 use open_order::Outside;
 use std::alloc::Global;
 
@@ -191,6 +194,14 @@ pub extern "C" fn lathe_races(
 {
     let texts = PairTexts::of(left, right, settings);
     told(answer(alloc, &texts, Question::Races, room), len)
+}
+
+/// The tape with its roughing cycles written out as plain blocks. The length is in bytes.
+#[unsafe(no_mangle)]
+pub extern "C" fn lathe_expand(alloc: Global, tape: &[u8], room: &mut [u8], len: &mut usize) -> u8
+    ensures { IsSaidOfTape IsExpanded tape.now room.old room.new (answer_with result len.new) }
+{
+    told(answer_expanded(alloc, tape, room), len)
 }
 
 /// The events of the run whose paths get their turns in an order: a byte for each turn, 1 or 2. The

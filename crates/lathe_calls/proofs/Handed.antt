@@ -1,20 +1,20 @@
 -- What a call says, from what was told and handed out.
 -- For the proofs of `answer` (src/answering.rt) and `events` (src/happening.rt).
-use Rattle.std.proofs.Common.{◌≡◌, ℕ, List, [], true, length, refl, sym, subst, ◌∙◌, ap, arith}
+use Rattle.std.proofs.Common.{◌≡◌, ℕ, Bool, List, [], true, length, refl, sym, subst, ◌∙◌, ap, arith}
 use Rattle.nc_verify.specs.Verdict.{Texts}
 use Rattle.lathe_calls.specs.Answers as answers
 use Rattle.lathe_calls.specs.Answers.{Answer, tells, Ends}
 use Rattle.lathe_calls.specs.declared.event.Event.{Event}
 use Rattle.lathe_calls.specs.declared.said.Said.{Said}
 use Rattle.lathe_calls.specs.Order.{AreDue, AreToldOf}
-use Rattle.lathe_calls.specs.Said.{IsHanded, IsSaid, room_with, answer_with}
+use Rattle.lathe_calls.specs.Said.{IsHanded, IsSaidIf, room_with, answer_with}
 use Rattle.lathe_calls.specs.Said as says
 use Rattle.lathe_calls.specs.Texts.{are_fit, sink_with}
 
 -- if a text that was told into memory was handed out, the call said what is due
-pub said_of : {IsDue : Answer → Type 0} {texts : Texts} {text before after : List ℕ} {it : Said} (status : ℕ) → are_fit texts ≡ true
+pub said_of : {IsDue : Answer → Type 0} {fits : Bool} {text before after : List ℕ} {it : Said} (status : ℕ) → fits ≡ true
     → Ends IsDue (sink_with []) (sink_with text) status → IsHanded status text before after it
-    → IsSaid texts (λ s t. IsDue (tells s t)) before after it
+    → IsSaidIf fits (λ s t. IsDue (tells s t)) before after it
 said_of status fit ends (says.lacking is same left) = says.lacking fit same left
 said_of {IsDue} status fit (answers.whole {text = told} due calm is) (says.whole some same left) =
     says.whole fit (subst (λ t. IsDue (tells status t)) (sym is) due) same left

@@ -31,7 +31,7 @@ fn hand_out_events(list: &[Event], room: &mut [Event]) -> usize
 }
 
 /// Hands out a text that was told with this status. If memory ran out, nothing is handed out.
-pub(crate) fn hand_text(status: u8, text: &[u8], room: &mut [u8]) -> Said
+pub fn hand_text(status: u8, text: &[u8], room: &mut [u8]) -> Said
     ensures { IsHanded status text.now room.old room.new result }
 {
     if status == Status::NoMemory as u8 {

@@ -32,7 +32,7 @@ pub fn expand<H: Shelf, K: Sink>(alloc: Global, name: &str, shelf: &mut H, out: 
 
 /// Writes this text with its roughing cycles as plain blocks, or its refusal, and gives the exit
 /// status.
-fn expand_text<K: Sink>(alloc: Global, text: &[u8], out: &mut K) -> u8
+pub(crate) fn expand_text<K: Sink>(alloc: Global, text: &[u8], out: &mut K) -> u8
     ensures { Ends (IsExpanded text.now) (K.state out.old) (K.state out.new) result }
 {
     match expand_tape(alloc, text) {
