@@ -1,12 +1,14 @@
 //! A program that calls each export of crates/lathe_c once. scripts/build_library --try compiles it without any proof, so that the
 //! toolchain puts the exports into its module, and keeps nothing of it but them.
 mod exports;
+mod handles;
 
 use exports::{
     lathe_events, lathe_judge, lathe_meaning, lathe_name, lathe_races, lathe_run, lathe_state, lathe_trace, lathe_verify, lathe_version,
     lathe_waits,
 };
-use lathe_calls::{PairTexts, weigh};
+use handles::{Handle, lathe_close, lathe_happened, lathe_look, lathe_open, lathe_step, lathe_tell, lathe_undo};
+use lathe_calls::{Event, Session, Standing, PairTexts, weigh};
 
 fn main(rt: HostRuntime) {
     let alloc = rt.alloc();
@@ -25,4 +27,17 @@ fn main(rt: HostRuntime) {
     let _status = lathe_state(alloc, text, text, b"", 100, &mut room, &mut len);
     let _status = lathe_waits(alloc, text, text, b"", 1, 0, &mut room, &mut len);
     let _status = lathe_events(alloc, text, text, b"", b"12", &mut [], &mut len);
+    let mut handle = Handle::closed();
+    if lathe_open(alloc, text, text, b"", &mut refusal, &mut handle) == 0 {
+        let session = Session::open(alloc, &PairTexts::of(text, text, b""));
+        if let Ok(session) = session {
+            let mut standing = session.standing(nc_number::Path::One);
+            let _status = lathe_look(alloc, &mut handle, 1, &mut standing);
+        }
+        let _status = lathe_step(alloc, &mut handle, 1, &mut [], &mut len);
+        let _status = lathe_happened(alloc, &mut handle, &mut [], &mut len);
+        let _status = lathe_tell(alloc, &mut handle, &mut room, &mut len);
+        let _status = lathe_undo(alloc, &mut handle, 0);
+        lathe_close(alloc, &mut handle);
+    }
 }

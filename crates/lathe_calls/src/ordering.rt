@@ -41,7 +41,7 @@ fn line_of(machine: &Machine, left: &Flow, right: &Flow, path: Path) -> u32
 }
 
 /// Gives a path its turn, and lists the events of it.
-fn give_turn(
+pub(crate) fn give_turn(
     list: &mut Vec<Event>,
     machine: &mut Machine,
     left: &Flow,

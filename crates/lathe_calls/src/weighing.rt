@@ -39,7 +39,7 @@ pub struct Weighed {
 }
 
 /// A refusal as C has it.
-fn refused_as(refusal: &Refusal) -> RefusedAs
+pub fn refused_as(refusal: &Refusal) -> RefusedAs
     ensures { result ≡ refused_as refusal.now }
 {
     RefusedAs {
