@@ -1,0 +1,2 @@
+-- The lemmas of rough_words.
+pub mod Wider
