@@ -6,11 +6,11 @@
 #![tactic(auto)]
 
 #[cfg(test)]
+mod examples;
+#[cfg(test)]
 mod grooves;
 #[cfg(test)]
 mod holes;
-#[cfg(test)]
-mod moves;
 #[cfg(test)]
 mod refusals;
 #[cfg(test)]

@@ -1,5 +1,6 @@
-//! Tests of what a threading cycle may not say, each with its nearest neighbour that it may.
-use crate::written::example;
+//! Tests of what cycles may not say, each with its nearest neighbour that they may.
+use crate::examples::example;
+use crate::written::lead;
 use std::test::Fail;
 use thread_cycle::{ThreadCycle, ThreadFault};
 
@@ -10,6 +11,7 @@ fn fault_name(cycle: &ThreadCycle) -> &'static str {
         Some(ThreadFault::AllLeft) => "all left",
         Some(ThreadFault::TooLarge) => "too large",
         Some(ThreadFault::NoPass) => "no pass",
+        Some(ThreadFault::NoLead) => "no lead",
         Some(ThreadFault::Short) => "short",
         Some(ThreadFault::Steep) => "steep",
         Some(ThreadFault::BelowCrest) => "below the crest",
@@ -27,12 +29,20 @@ fn less_than_the_depth_is_left(rt: HostRuntime) -> Result<(), Fail> {
 }
 
 #[test]
-fn a_lead_is_one_that_a_literal_can_write(rt: HostRuntime) -> Result<(), Fail> {
+fn a_length_is_one_that_a_word_can_say(rt: HostRuntime) -> Result<(), Fail> {
     let mut cycle = example();
-    cycle.lead = 99_999_999_999_999;
+    cycle.least = 100_000_000_000;
     assert!(rt; fault_name(&cycle) == "fit");
-    cycle.lead = 100_000_000_000_000;
+    cycle.least = 100_000_000_001;
     assert!(rt; fault_name(&cycle) == "too large");
+    Ok(())
+}
+
+#[test]
+fn a_thread_has_a_lead(rt: HostRuntime) -> Result<(), Fail> {
+    let mut cycle = example();
+    cycle.lead = lead(0);
+    assert!(rt; fault_name(&cycle) == "no lead");
     Ok(())
 }
 

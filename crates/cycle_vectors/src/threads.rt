@@ -1,8 +1,9 @@
 //! Tests of the blocks of G76 and G92.
-use crate::written::{example, has_blocks, in_one_cut};
+use crate::examples::{example, has_blocks, in_one_cut};
+use crate::written::lead;
 use nc_number::Point;
 use std::test::Fail;
-use thread_cycle::{ThreadCycle, TipAngle};
+use thread_cycle::{RootRounding, ThreadCycle, TipAngle};
 
 /// The blocks of the example: depths of 1.8, 1.8 by the root of 2, of 3, 3.48 and 3.68; 2.125 ahead
 /// at the whole depth, and before it as much less as the flank of the groove is off its middle.
@@ -12,6 +13,22 @@ const EXAMPLE: &str =
 #[test]
 fn the_manuals_example_has_five_passes(rt: HostRuntime) -> Result<(), Fail> {
     assert!(rt; has_blocks(rt.alloc(), &example(), EXAMPLE)?);
+    Ok(())
+}
+
+/// The depths 1.8, 2.546, 3.118, 3.48 and 3.68: roots of 2 and of 3 that are not whole are rounded
+/// up, and the tip begins as much farther ahead as the flank of its groove says.
+#[test]
+fn a_control_may_round_roots_up(rt: HostRuntime) -> Result<(), Fail> {
+    let mut cycle = example();
+    cycle.rounding = RootRounding::Up;
+    assert!(rt;
+        has_blocks(
+            rt.alloc(),
+            &cycle,
+            " RZ128960 RX64400 TX64400Z31000 TX76400Z25000 RX80000 RZ128529 RX62908 TX62908Z31000 TX74908Z25000 RX80000 RZ128199 RX61764 TX61764Z31000 TX73764Z25000 RX80000 RZ127990 RX61040 TX61040Z31000 TX73040Z25000 RX80000 RZ127875 RX60640 TX60640Z31000 TX72640Z25000 RX80000 RZ130000"
+        )?
+    );
     Ok(())
 }
 
@@ -112,7 +129,8 @@ fn a_single_pass_is_a_cycle_without_depth(rt: HostRuntime) -> Result<(), Fail> {
         finishing: 1,
         pull_out: 0,
         tip: TipAngle::Degrees60,
-        lead: 2_000_000,
+        rounding: RootRounding::Down,
+        lead: lead(2),
     };
     assert!(rt;
         has_blocks(

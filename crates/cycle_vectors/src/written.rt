@@ -1,86 +1,68 @@
-//! A thread's blocks as a text of one line: R a rapid, T a thread, and the words of each.
-ghost use Rattle.std.specs.Prelude.{◌≡◌, None};
-ghost use Rattle.thread_cycle.specs.Faults.{pass_fault_of};
-
-use nc_number::Point;
+//! Plain blocks as a text of one line: R a rapid, C a cut, T a thread, with the words of each, and P
+//! a rest.
+use nc_number::Value;
+use plain_block::{Course, PlainBlock};
 use std::alloc::{AllocError, Global};
-use thread_cycle::{Motion, PlainBlock, ThreadCycle, TipAngle};
 
-/// The cycle of the manual's example: P011060 Q100 R200, X60.64 Z25. P3680 Q1800 F6. from X80. Z130.
-pub(crate) fn example() -> ThreadCycle {
-    ThreadCycle {
-        start: Point {
-            x: 80_000,
-            z: 130_000,
-        },
-        target: Point {
-            x: 60_640,
-            z: 25_000,
-        },
-        taper: 0,
-        depth: 3_680,
-        first: 1_800,
-        least: 100,
-        left: 200,
-        finishing: 1,
-        pull_out: 10,
-        tip: TipAngle::Degrees60,
-        lead: 6_000_000,
-    }
-}
-
-/// The same in one cut, and then at the whole depth, which is that cut's.
-pub(crate) fn in_one_cut() -> ThreadCycle {
-    let mut cycle = example();
-    cycle.first = 3_680;
-    cycle.left = 0;
-    cycle
-}
-
-/// Whether the cycle's blocks, a text each, are these.
-pub(crate) fn has_blocks(
+/// The text of blocks, if there are not too many.
+pub(crate) fn text_of(
     alloc: Global,
-    cycle: &ThreadCycle,
-    wanted: &str,
-) -> Result<bool, AllocError> {
-    match cycle.pass_fault() {
-        Some(_) => Ok(false),
-        None => {
-            let text = blocks_text(alloc, cycle)?;
-            Ok(text.as_str() == wanted)
-        }
-    }
-}
-
-/// The text of the blocks of a cycle whose passes have no fault.
-fn blocks_text(alloc: Global, cycle: &ThreadCycle) -> Result<String, AllocError>
-    requires { pass_fault_of cycle.now ≡ None }
-{
+    blocks: Option<Vec<PlainBlock>>,
+) -> Result<String, AllocError> {
     let mut text = String::new(alloc);
-    match cycle.blocks(alloc)? {
-        None => text.push_str("too many")?,
-        Some(blocks) => {
-            for block in &blocks {
-                push_block(alloc, block, &mut text)?;
-            }
-        }
+    let Some(blocks) = blocks else {
+        text.push_str("too many")?;
+        return Ok(text);
+    };
+    for block in &blocks {
+        push_block(alloc, block, &mut text)?;
     }
     Ok(text)
 }
 
 /// Puts the text of a block.
 fn push_block(alloc: Global, block: &PlainBlock, text: &mut String) -> Result<(), AllocError> {
-    text.push_str(match block.motion {
-        Motion::Rapid => " R",
-        Motion::Thread => " T",
-    })?;
-    if let Some(x) = block.x {
-        let word = format!(in alloc; "X{x}")?;
-        text.push_str(word.as_str())?;
+    match *block {
+        PlainBlock::Move { course, x, z } => {
+            text.push_str(course_letter(course))?;
+            push_axis(alloc, "X", x, text)?;
+            push_axis(alloc, "Z", z, text)
+        }
+        PlainBlock::Dwell { ms } => {
+            let word = format!(in alloc; " P{ms}")?;
+            text.push_str(word.as_str())
+        }
     }
-    if let Some(z) = block.z {
-        let word = format!(in alloc; "Z{z}")?;
-        text.push_str(word.as_str())?;
+}
+
+/// The letter of a course, after a blank.
+fn course_letter(course: Course) -> &'static str {
+    match course {
+        Course::Rapid => " R",
+        Course::Cut => " C",
+        Course::Thread { .. } => " T",
+        Course::Arc { .. } => " A",
     }
-    Ok(())
+}
+
+/// Puts the word of an axis, if the block moves it.
+fn push_axis(
+    alloc: Global,
+    letter: &str,
+    at: Option<i64>,
+    text: &mut String,
+) -> Result<(), AllocError> {
+    let Some(at) = at else {
+        return Ok(());
+    };
+    let word = format!(in alloc; "{letter}{at}")?;
+    text.push_str(word.as_str())
+}
+
+/// A lead of so many whole millimetres.
+pub(crate) fn lead(millimetres: u8) -> Value {
+    match Value::of_units(i64::from(millimetres)) {
+        Some(lead) => lead,
+        None => Value::zero(),
+    }
 }

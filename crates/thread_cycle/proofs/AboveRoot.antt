@@ -5,14 +5,16 @@ use Rattle.std.specs.Prelude.{unsigned_abs}
 use Rattle.std.proofs.lemmas.Int.{ints}
 use Rattle.std.proofs.Math.IntN.{pos-*ℤ-pos, *ℤ-zero}
 use Rattle.nc_number.specs.declared.point.Point.{Point}
+use Rattle.plain_block.specs.Shifts.{moved}
+use Rattle.plain_block.proofs.Shifted.{moved_by}
 use Rattle.nc_number.specs.Distances.{distance, IsBetween}
 use Rattle.nc_number.proofs.Integers.{lt_is}
 use Rattle.thread_cycle.specs.declared.cycle.ThreadCycle.{ThreadCycle}
-use Rattle.thread_cycle.specs.Passes.{is_inner, goes_down, moved, back, whole_length, infeed, end_of, x_before, length_of, begin_of, pull_of, corner_of, rise_of, exit_of}
+use Rattle.thread_cycle.specs.Passes.{is_inner, goes_down, back, whole_length, infeed, end_of, x_before, length_of, begin_of, pull_of, corner_of, rise_of, exit_of}
 use Rattle.thread_cycle.specs.Moves.{IsOffRoot, RunsOffRoot}
 use Rattle.thread_cycle.specs.Sides.{IsOnSide}
 use Rattle.thread_cycle.proofs.Multiples.{times_le, times_sum, sum_times, mixed, further, at_zero}
-use Rattle.thread_cycle.proofs.TaperLine.{moved_by, on_taper}
+use Rattle.thread_cycle.proofs.TaperLine.{on_taper}
 
 -- a point so far before the target is off the root
 abbrev pub IsPointOff : ThreadCycle → Point → ℕ → Type 0

@@ -1,24 +1,23 @@
 -- The faults of a cycle: what is found is so, and what is so is found. For the law
 -- `a_fault_is_its_condition` (src/law.rt).
-use Rattle.std.proofs.Common.{◌≡◌, inl, inr, ℕ, ◌==◌, ◌<◌, ◌≤◌, Bool, true, false, ◌&&◌, Option, Some, None, ℤ, ◌≤ℤ◌, cond, refl, ap, sym, subst, ◌∙◌, arith}
+use Rattle.std.proofs.Common.{◌≡◌, inl, inr, ℕ, ◌==◌, ◌<◌, ◌≤◌, Bool, true, false, ◌&&◌, Option, Some, None, ℤ, pos, ◌≤ℤ◌, ◌<ℤ◌, cond, refl, ap, sym, subst, ◌∙◌, arith}
 use Rattle.std.specs.Prelude.{nat_le, nat_lt, int_le, unsigned_abs}
-use Rattle.std.proofs.lemmas.Bool.{leb-true, leb-false}
+use Rattle.std.proofs.lemmas.Bool.{leb-true, leb-false, le-leb, lt-leb}
 use Rattle.std.proofs.lemmas.Bool.Decides.{nat_tests}
 use Rattle.std.proofs.lemmas.Int.{ints}
-use Rattle.nc_number.specs.declared.limits.TheConstants.{LONGEST_SAID, LARGEST_MICRO}
+use Rattle.nc_number.specs.declared.limits.TheConstants.{LONGEST_SAID}
 use Rattle.nc_number.specs.declared.point.Point.{Point}
 use Rattle.nc_number.proofs.Bools.{both}
 use Rattle.nc_number.proofs.Counts.{lt_true, lt_false}
 use Rattle.nc_number.proofs.Integers.{le_is}
 use Rattle.thread_cycle.specs.declared.cycle.ThreadCycle.{ThreadCycle}
 use Rattle.thread_cycle.specs.declared.fault.ThreadFault.{ThreadFault}
-use Rattle.thread_cycle.specs.declared.fault.ThreadFault.TheVariants.{AllLeft, TooLarge, NoPass, Short, Steep, BelowCrest}
+use Rattle.thread_cycle.specs.declared.fault.ThreadFault.TheVariants.{AllLeft, TooLarge, NoPass, NoLead, Short, Steep, BelowCrest}
 use Rattle.thread_cycle.specs.Crests.{IsOffCrest, crest_at_end, crest_at_begin, starts_off}
-use Rattle.thread_cycle.specs.Faults.{near_fault_of, pass_fault_of, fault_of, IsLong, IsPassFault, IsFault}
-use Rattle.thread_cycle.specs.Near.{IsWritten, IsNearCycle, is_written, has_near_depths, has_near_lead, is_near_cycle}
+use Rattle.thread_cycle.specs.Faults.{near_fault_of, pass_fault_of, fault_of, IsMade, IsLong, IsPassFault, IsFault}
+use Rattle.thread_cycle.specs.Near.{IsWritten, IsNearCycle, is_written, has_near_depths, is_near_cycle}
 use Rattle.thread_cycle.specs.Passes.{is_inner, whole_length, whole_infeed}
 use Rattle.thread_cycle.specs.Sides.{IsOnSide, is_on_both}
-use Rattle.thread_cycle.proofs.MadeDepths.{le_passes, gt_fails}
 
 -- tests
 
@@ -30,19 +29,18 @@ written_is p e =
 
 -- one that is written passes
 written_passes : (p : Point) → IsWritten p → is_written p ≡ true
-written_passes p near = ap (λ b. b && nat_le (unsigned_abs p.z) LONGEST_SAID) (le_passes _ _ near.0) ∙ le_passes _ _ near.1
+written_passes p near = ap (λ b. b && nat_le (unsigned_abs p.z) LONGEST_SAID) (le-leb _ _ near.0) ∙ le-leb _ _ near.1
 
 -- a cycle that passes is near
 near_is : (t : ThreadCycle) → is_near_cycle t ≡ true → IsNearCycle t
 near_is t e =
-    let start = both (is_written t.start) (is_written t.target && (nat_le (unsigned_abs t.taper) LONGEST_SAID && (has_near_depths t && has_near_lead t))) e in
-    let target = both (is_written t.target) (nat_le (unsigned_abs t.taper) LONGEST_SAID && (has_near_depths t && has_near_lead t)) start.1 in
-    let taper = both (nat_le (unsigned_abs t.taper) LONGEST_SAID) (has_near_depths t && has_near_lead t) target.1 in
-    let rest = both (has_near_depths t) (has_near_lead t) taper.1 in
+    let start = both (is_written t.start) (is_written t.target && (nat_le (unsigned_abs t.taper) LONGEST_SAID && (has_near_depths t && nat_le t.pull_out 99))) e in
+    let target = both (is_written t.target) (nat_le (unsigned_abs t.taper) LONGEST_SAID && (has_near_depths t && nat_le t.pull_out 99)) start.1 in
+    let taper = both (nat_le (unsigned_abs t.taper) LONGEST_SAID) (has_near_depths t && nat_le t.pull_out 99) target.1 in
+    let rest = both (has_near_depths t) (nat_le t.pull_out 99) taper.1 in
     let depth = both (nat_le t.depth LONGEST_SAID) (nat_le t.first LONGEST_SAID && (nat_le t.least LONGEST_SAID && nat_le t.left LONGEST_SAID)) rest.0 in
     let first = both (nat_le t.first LONGEST_SAID) (nat_le t.least LONGEST_SAID && nat_le t.left LONGEST_SAID) depth.1 in
     let least = both (nat_le t.least LONGEST_SAID) (nat_le t.left LONGEST_SAID) first.1 in
-    let lead = both (nat_le t.pull_out 99) (nat_le t.lead LARGEST_MICRO) rest.1 in
     record {
       start = written_is t.start start.0;
       target = written_is t.target target.0;
@@ -51,16 +49,14 @@ near_is t e =
       first = leb-true _ _ first.0;
       least = leb-true _ _ least.0;
       left = leb-true _ _ least.1;
-      pull_out = leb-true _ _ lead.0;
-      lead = leb-true _ _ lead.1;
+      pull_out = leb-true _ _ rest.1;
     }
 
 -- one that is near passes
 near_passes : (t : ThreadCycle) → IsNearCycle t → is_near_cycle t ≡ true
 near_passes t near =
-    let depths : has_near_depths t ≡ true = rw (le_passes _ _ near.depth, le_passes _ _ near.first, le_passes _ _ near.least, le_passes _ _ near.left) refl in
-    let lead : has_near_lead t ≡ true = rw (le_passes _ _ near.pull_out, le_passes _ _ near.lead) refl in
-    rw (written_passes t.start near.start, written_passes t.target near.target, le_passes _ _ near.taper, depths, lead) refl
+    let depths : has_near_depths t ≡ true = rw (le-leb _ _ near.depth, le-leb _ _ near.first, le-leb _ _ near.least, le-leb _ _ near.left) refl in
+    rw (written_passes t.start near.start, written_passes t.target near.target, le-leb _ _ near.taper, depths, le-leb _ _ near.pull_out) refl
 
 -- one that is not fails
 far_fails : (t : ThreadCycle) → (IsNearCycle t → ⊥) → is_near_cycle t ≡ false
@@ -75,14 +71,10 @@ sides_are : (inner : Bool) (a b x : ℤ) → is_on_both inner a b x ≡ true →
 sides_are true a b x e = let parts = both (int_le x a) (int_le x b) e in (le_is x a parts.0, le_is x b parts.1)
 sides_are false a b x e = let parts = both (int_le a x) (int_le b x) e in (le_is a x parts.0, le_is b x parts.1)
 
--- a whole number that is at most another passes that test
-int_passes : (a b : ℤ) → a ≤ℤ b → int_le a b ≡ true
-int_passes a b le = grind (arith, ints)
-
 -- one that is there passes
 sides_pass : (inner : Bool) (a b x : ℤ) → IsOnSide inner a x → IsOnSide inner b x → is_on_both inner a b x ≡ true
-sides_pass true a b x one other = rw (int_passes x a one, int_passes x b other) refl
-sides_pass false a b x one other = rw (int_passes a x one, int_passes b x other) refl
+sides_pass true a b x one other = grind (arith, ints)
+sides_pass false a b x one other = grind (arith, ints)
 
 -- a start that passes is off the crest
 off_is : (t : ThreadCycle) → starts_off t ≡ true → IsOffCrest t t.start.x
@@ -108,6 +100,14 @@ some_fails n some = grind (arith, nat_tests)
 none_passes : (n : ℕ) → n ≡ 0 → (n == 0) ≡ true
 none_passes n none = grind (arith, nat_tests)
 
+-- a lead above 0 fails the test of none
+lead_fails : (lead : ℤ) → pos 0 <ℤ lead → int_le lead (pos 0) ≡ false
+lead_fails lead some = grind (arith, ints)
+
+-- one that is not passes it
+lead_passes : (lead : ℤ) → lead ≤ℤ pos 0 → int_le lead (pos 0) ≡ true
+lead_passes lead none = grind (arith, ints)
+
 -- what is found
 
 -- of passes that literals can write
@@ -122,15 +122,20 @@ near_found t near = counted (t.finishing == 0) refl
     steep true e long = (near, long, (let less : whole_length t < unsigned_abs t.taper = grind (arith, nat_tests) in less))
     steep false e long = let most : unsigned_abs t.taper ≤ whole_length t = grind (arith, nat_tests) in free (starts_off t) refl long most
 
-    short : (b : Bool) → nat_le (whole_length t) (whole_infeed t) ≡ b → 1 ≤ t.finishing
+    short : (b : Bool) → nat_le (whole_length t) (whole_infeed t) ≡ b → IsMade t
         → IsPassFault t (cond b (Some Short) (cond (nat_lt (whole_length t) (unsigned_abs t.taper)) (Some Steep) (cond (starts_off t) None (Some BelowCrest))))
-    short true e some = (near, some, leb-true _ _ e)
-    short false e some = steep (nat_lt (whole_length t) (unsigned_abs t.taper)) refl (some, leb-false _ _ e)
+    short true e made = (near, made, leb-true _ _ e)
+    short false e made = steep (nat_lt (whole_length t) (unsigned_abs t.taper)) refl (made, leb-false _ _ e)
+
+    led : (b : Bool) → int_le t.lead (pos 0) ≡ b → 1 ≤ t.finishing
+        → IsPassFault t (cond b (Some NoLead) (cond (nat_le (whole_length t) (whole_infeed t)) (Some Short) (cond (nat_lt (whole_length t) (unsigned_abs t.taper)) (Some Steep) (cond (starts_off t) None (Some BelowCrest)))))
+    led true e some = (near, some, le_is t.lead (pos 0) e)
+    led false e some = let more : pos 0 <ℤ t.lead = grind (arith, ints) in short (nat_le (whole_length t) (whole_infeed t)) refl (some, more)
 
     counted : (b : Bool) → (t.finishing == 0) ≡ b
-        → IsPassFault t (cond b (Some NoPass) (cond (nat_le (whole_length t) (whole_infeed t)) (Some Short) (cond (nat_lt (whole_length t) (unsigned_abs t.taper)) (Some Steep) (cond (starts_off t) None (Some BelowCrest)))))
+        → IsPassFault t (cond b (Some NoPass) (cond (int_le t.lead (pos 0)) (Some NoLead) (cond (nat_le (whole_length t) (whole_infeed t)) (Some Short) (cond (nat_lt (whole_length t) (unsigned_abs t.taper)) (Some Steep) (cond (starts_off t) None (Some BelowCrest))))))
     counted true e = let none : t.finishing ≡ 0 = grind (arith, nat_tests) in (near, none)
-    counted false e = let some : 1 ≤ t.finishing = grind (arith, nat_tests) in short (nat_le (whole_length t) (whole_infeed t)) refl some
+    counted false e = let some : 1 ≤ t.finishing = grind (arith, nat_tests) in led (int_le t.lead (pos 0)) refl some
 
 -- of any passes
 pub pass_found : (t : ThreadCycle) → IsPassFault t (pass_fault_of t)
@@ -149,13 +154,14 @@ pub pass_told : (t : ThreadCycle) (fault : Option ThreadFault) → IsPassFault t
 pass_told t (Some AllLeft) is = elim is [ ]
 pass_told t (Some TooLarge) far = ap (goes_on t) (far_fails t far)
 pass_told t (Some NoPass) (near, none) = ap (goes_on t) (near_passes t near) ∙ rw (none_passes t.finishing none) refl
-pass_told t (Some Short) (near, some, short) = ap (goes_on t) (near_passes t near) ∙ rw (some_fails t.finishing some, le_passes _ _ short) refl
-pass_told t (Some Steep) (near, (some, long), steep) =
-    ap (goes_on t) (near_passes t near) ∙ rw (some_fails t.finishing some, gt_fails _ _ long, lt_true _ _ steep) refl
-pass_told t (Some BelowCrest) (near, (some, long), gentle, below) =
-    ap (goes_on t) (near_passes t near) ∙ rw (some_fails t.finishing some, gt_fails _ _ long, lt_false _ _ gentle, below_fails t below) refl
-pass_told t None (near, (some, long), gentle, off) =
-    ap (goes_on t) (near_passes t near) ∙ rw (some_fails t.finishing some, gt_fails _ _ long, lt_false _ _ gentle, off_passes t off) refl
+pass_told t (Some NoLead) (near, some, none) = ap (goes_on t) (near_passes t near) ∙ rw (some_fails t.finishing some, lead_passes t.lead none) refl
+pass_told t (Some Short) (near, (some, led), short) = ap (goes_on t) (near_passes t near) ∙ rw (some_fails t.finishing some, lead_fails t.lead led, le-leb _ _ short) refl
+pass_told t (Some Steep) (near, ((some, led), long), steep) =
+    ap (goes_on t) (near_passes t near) ∙ rw (some_fails t.finishing some, lead_fails t.lead led, lt-leb _ _ long, lt_true _ _ steep) refl
+pass_told t (Some BelowCrest) (near, ((some, led), long), gentle, below) =
+    ap (goes_on t) (near_passes t near) ∙ rw (some_fails t.finishing some, lead_fails t.lead led, lt-leb _ _ long, lt_false _ _ gentle, below_fails t below) refl
+pass_told t None (near, ((some, led), long), gentle, off) =
+    ap (goes_on t) (near_passes t near) ∙ rw (some_fails t.finishing some, lead_fails t.lead led, lt-leb _ _ long, lt_false _ _ gentle, off_passes t off) refl
 
 -- of the cycle
 pub found : (t : ThreadCycle) → IsFault t (fault_of t)
@@ -167,8 +173,8 @@ found t = go (nat_le t.depth t.left) refl
 
 -- of the cycle, what is so
 pub told : (t : ThreadCycle) (fault : Option ThreadFault) → IsFault t fault → fault_of t ≡ fault
-told t fault (inl (all, left)) = ap (λ b. cond b (Some AllLeft) (pass_fault_of t)) (le_passes _ _ left) ∙ sym all
-told t fault (inr (some, is)) = ap (λ b. cond b (Some AllLeft) (pass_fault_of t)) (gt_fails _ _ some) ∙ pass_told t fault is
+told t fault (inl (all, left)) = ap (λ b. cond b (Some AllLeft) (pass_fault_of t)) (le-leb _ _ left) ∙ sym all
+told t fault (inr (some, is)) = ap (λ b. cond b (Some AllLeft) (pass_fault_of t)) (lt-leb _ _ some) ∙ pass_told t fault is
 
 -- passes without a fault
 

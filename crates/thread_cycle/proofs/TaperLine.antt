@@ -10,14 +10,15 @@ use Rattle.std.proofs.lemmas.Int.{ints}
 use Rattle.std.proofs.lemmas.Nat.{div-add-mod'}
 use Rattle.std.proofs.Math.IntN.{*ℤ_comm}
 use Rattle.std.proofs.Math.Nat.{mod-lt, mul-le-mul_left, mul-le-mul_right}
+use Rattle.plain_block.specs.Shifts.{moved}
+use Rattle.plain_block.proofs.Shifted.{between_from}
 use Rattle.nc_number.specs.Distances.{distance, IsBetween}
 use Rattle.nc_number.specs.Signs.{with_sign}
 use Rattle.nc_number.proofs.NearestQuotient.{negative_pos, signed_size, signed_times}
 use Rattle.thread_cycle.specs.declared.cycle.ThreadCycle.{ThreadCycle}
-use Rattle.thread_cycle.specs.Passes.{is_inner, moved, end_of, whole_length, rounds_up, taper_at, x_before}
+use Rattle.thread_cycle.specs.Passes.{is_inner, end_of, whole_length, rounds_up, taper_at, x_before}
 use Rattle.thread_cycle.specs.Moves.{IsOffRoot, IsOnTaper}
 use Rattle.thread_cycle.specs.Sides.{IsOnSide}
-use Rattle.thread_cycle.proofs.OneGroove.{between}
 
 -- lengths that are moved
 
@@ -30,11 +31,6 @@ moved_more false x a b less = omega (arith, ints)
 pub moved_off : (inner : Bool) (x : ℤ) (n : ℕ) → IsOnSide inner x (moved inner x n)
 moved_off true x n = omega (arith, ints)
 moved_off false x n = omega (arith, ints)
-
--- how far a length was moved
-pub moved_by : (down : Bool) (x : ℤ) (n : ℕ) → distance (moved down x n) x ≡ n
-moved_by true x n = omega (arith, ints)
-moved_by false x n = omega (arith, ints)
 
 -- no pass ends below those at the whole depth
 pub ends_above : (t : ThreadCycle) (d : ℕ) → IsOnSide (is_inner t) (end_of t t.depth).x (end_of t d).x
@@ -142,7 +138,7 @@ whole_taper t x = go (is_negative t.taper) (twice t.taper)
 pub between_ends : (t : ThreadCycle) (d n : ℕ) → 1 ≤ whole_length t → n ≤ whole_length t → IsBetween (end_of t d).x (x_before t d n) ((end_of t d).x +ℤ t.taper +ℤ t.taper)
 between_ends t d n long within =
     subst (λ x. IsBetween (end_of t d).x (x_before t d n) x) (whole_taper t (end_of t d).x)
-    (between (is_negative t.taper) (end_of t d).x (taper_at t n) (2 * unsigned_abs t.taper) (taper_within t n long within))
+    (between_from (is_negative t.taper) (end_of t d).x (taper_at t n) (2 * unsigned_abs t.taper) (taper_within t n long within))
 
 -- it is on its taper's line, less than one increment off it to the free side
 pub on_taper : (t : ThreadCycle) (d n : ℕ) → 1 ≤ whole_length t → n ≤ whole_length t → IsOnTaper t d n

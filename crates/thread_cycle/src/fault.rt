@@ -1,23 +1,25 @@
 //! What a threading cycle may not say. Who reads one asks before it asks for the blocks.
-ghost use Rattle.std.specs.Prelude.{◌≡◌, ◌≤◌, None, unsigned_abs};
+ghost use Rattle.std.specs.Prelude.{◌≡◌, ◌≤◌, None, unsigned_abs, int_le, pos};
 ghost use Rattle.thread_cycle.specs.Crests.{crest_at_end, crest_at_begin, starts_off};
 ghost use Rattle.thread_cycle.specs.Faults.{near_fault_of, pass_fault_of, fault_of};
-ghost use Rattle.thread_cycle.specs.Near.{IsNearCycle, is_written, has_near_depths, has_near_lead, is_near_cycle};
+ghost use Rattle.thread_cycle.specs.Near.{IsNearCycle, is_written, has_near_depths, is_near_cycle};
 ghost use Rattle.thread_cycle.specs.Sides.{is_on_both};
 
 use crate::cycle::ThreadCycle;
-use crate::passes::moved;
-use nc_number::{LARGEST_MICRO, LONGEST_SAID, Point};
+use nc_number::{LONGEST_SAID, Point};
+use plain_block::moved;
 
 /// Why a threading cycle is refused. Of several causes the first in this order is told.
 #[derive(Clone, Copy, Debug, PartialEq, Eq)]
 pub enum ThreadFault {
     /// What is left for the passes at the whole depth is that depth, or more.
     AllLeft,
-    /// A length, a depth or the lead is more than a literal can write.
+    /// A length, a depth or the pull-out is more than a word can say.
     TooLarge,
     /// There is no pass at the whole depth.
     NoPass,
+    /// The lead is 0, or less.
+    NoLead,
     /// The thread is no longer than its passes at the whole depth begin ahead of the start.
     Short,
     /// The taper is steeper than 45 degrees.
@@ -58,6 +60,9 @@ impl ThreadCycle {
         if self.finishing == 0 {
             return Some(ThreadFault::NoPass);
         }
+        if self.has_no_lead() {
+            return Some(ThreadFault::NoLead);
+        }
         if self.whole_length() <= self.whole_infeed() {
             return Some(ThreadFault::Short);
         }
@@ -79,7 +84,7 @@ impl ThreadCycle {
             && is_written(&self.target)
             && self.taper.unsigned_abs() <= LONGEST_SAID
             && self.has_near_depths()
-            && self.has_near_lead()
+            && self.pull_out <= 99
     }
 
     /// Whether literals can write the depths.
@@ -92,11 +97,11 @@ impl ThreadCycle {
             && self.left <= LONGEST_SAID
     }
 
-    /// Whether they can write the pull-out and the lead.
-    fn has_near_lead(&self) -> bool
-        ensures { result ≡ has_near_lead self.now }
+    /// Whether the lead is 0, or less.
+    fn has_no_lead(&self) -> bool
+        ensures { result ≡ int_le self.now.lead (pos 0) }
     {
-        self.pull_out <= 99 && self.lead <= LARGEST_MICRO
+        self.lead.micro() <= 0
     }
 
     /// Whether the start is clear of the crest at both ends of the thread.

@@ -1,0 +1,2 @@
+-- The lemmas of peck_form.
+pub mod Repeats

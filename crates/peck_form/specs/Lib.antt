@@ -1,0 +1,7 @@
+-- What callers read: the form of grooves and holes (Form). Below it what its kinds of blocks say.
+pub mod Kinds
+pub mod Answers
+pub mod Groove
+pub mod Holes
+pub mod Run
+pub mod Form

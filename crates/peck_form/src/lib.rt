@@ -1,0 +1,13 @@
+//! The forms of grooves and holes as plain blocks: G74 and G75 in one line or two, and G83 to G89
+//! with the blocks after them that are holes. A block with one of these codes is of this form: it is
+//! written out, with the lines after it that are, or refused with its cause.
+#![tactic(auto)]
+
+mod answers;
+mod form;
+mod groove;
+mod hole;
+mod kind;
+mod run;
+
+pub use form::peck_form;
