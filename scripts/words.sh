@@ -15,7 +15,8 @@ state|||prints where both paths are, and their offsets and variables|state
 zones|FILE||says between which meetings of that run both turrets may come to one place|zones facing.txt
 branch|MEETINGS||writes that run up to a meeting to a second journal, branch.journal|branch 1
 make|N|turret1 turret2|runs a generated test job of some 10,000 blocks (N: 0 to 999999)|make 7
-expand|TAPE||writes a tape with its G71 and G70 over contours of lines as plain blocks|expand examples/roughing.nc'
+expand|TAPE||writes a tape with its G71 and G70 over contours of lines as plain blocks|expand examples/roughing.nc
+plain|TAPE [SETTINGS]||writes a shop'\''s tape in the language that runs, line by line|plain examples/shop.nc'
 
 # The row of the command $1. (The shell would read lines byte by byte, so the row is cut out.)
 row_of() {
@@ -252,9 +253,12 @@ END
             cat <<'END'
 FILE says how both paths lie in one cell, a line each, all of them optional:
 `frame 2 X0 Z500.` where the origin of a path lies, `mirror 2` that a path sees
-X from the other side, `gap X5. Z5.` how far apart they are to stay. It prints a
-line for each segment between two meetings, `clear` or `hit`. `clear` is proved
-of the programmed points, for any timing; of tools and holders it knows nothing.
+X from the other side, `gap X5. Z5.` how far apart they are to stay (X is a
+diameter). It prints a line for each segment between two meetings, `clear` or
+`hit`. `clear` is proved of the programmed points, for any timing.
+With a line `by moves` each pair of moves is judged, with boxes round the tools
+(`tool 1 3 X-40. X20. Z0. Z120.`) and boxes that stand in the cell (`fixed 1 X0.
+X250. Z-300. Z0.`), and the first two moves that come near are named.
 END
             ;;
         branch)

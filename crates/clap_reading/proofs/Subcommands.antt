@@ -1,6 +1,6 @@
--- The arguments of each subcommand, and how its reading ends. Three kinds: those of a pair (left and
--- right, and settings that may be left out), of one word, and of no word. A use is an argument with
--- the text that it was given. For TopWords.
+-- The arguments of each subcommand, and how its reading ends. Four kinds: those of a pair (left and
+-- right, and settings that may be left out), of a tape (and settings that may be left out), of one
+-- word, and of no word. A use is an argument with the text that it was given. For TopWords.
 use Rattle.std.proofs.Common.{◌≡◌, ℕ, ◌+◌, ◌<◌, inl, inr, Bool, true, false, ◌&&◌, ◌||◌, not, cond, List, [], ◌∷◌, ◌++◌, map, length, Option, Some, None, is_some, refl, sym, ap, subst, ◌∙◌, arith, codes}
 use Rattle.std.proofs.Math.Bool.{or-true}
 use Rattle.std.specs.Prelude.{nat_eq}
@@ -169,6 +169,21 @@ none_required (own ∷ options) rows = none_required options rows
 abbrev pub pair_ids : List Text
 pair_ids = pair_words ++ settings_word
 
+-- The words of a command of a tape: the tape and its settings.
+abbrev pub tape_ids : List Text
+tape_ids = codes "tape" ∷ settings_word
+
+-- The rules of a command of a tape, with these options.
+abbrev pub tape_rules : List Text → List Rule
+tape_rules options = name_at 1 (codes "tape") ∷ further_at 2 (codes "settings") ∷ option_rules options
+
+-- No option has the name of one of these words.
+pub record AreTapeNames (options : List Text) : Type 0 where
+  -- no option is called `tape`
+  pub tape : is_known options (codes "tape") ≡ false
+  -- no option is called `settings`
+  pub settings : is_known options (codes "settings") ≡ false
+
 -- The rules of a command of a pair, with these options.
 abbrev pub pair_rules : List Text → List Rule
 pair_rules options = name_at 1 (codes "left") ∷ name_at 2 (codes "right") ∷ further_at 3 (codes "settings") ∷ option_rules options
@@ -241,6 +256,44 @@ pair_arguments options free = record {
   few = omega arith;
   no_default = defaults_stay (pair_rules options) (refl, (refl, (refl, no_defaults options)));
   no_default_fault = defaults_pass (pair_rules options) (refl, (refl, (refl, no_defaults options)));
+}
+
+-- The next word of a tape has no option's name.
+tape_named : (options : List Text) → AreTapeNames options → (names : List Text) (id : Text) → slice_get tape_ids (length names) ≡ Some id → is_known options id ≡ false
+tape_named options free [] id e = as_id (λ id. is_known options id ≡ false) (codes "tape") id e free.tape
+tape_named options free (a ∷ []) id e = as_id (λ id. is_known options id ≡ false) (codes "settings") id e free.settings
+tape_named options free (a ∷ b ∷ names) id e = cc
+
+-- The next word of a tape was not given before.
+tape_fresh : (names : List Text) (id : Text) → slice_get tape_ids (length names) ≡ Some id → value_in id (zip tape_ids names) ≡ None
+tape_fresh [] id e = refl
+tape_fresh (a ∷ []) id e = as_id (λ id. value_in id (zip tape_ids (a ∷ [])) ≡ None) (codes "settings") id e refl
+tape_fresh (a ∷ b ∷ names) id e = cc
+
+-- The next word of a tape has its rule at its position.
+tape_at : (options names : List Text) (id : Text) → slice_get tape_ids (length names) ≡ Some id → RuleAt (tape_rules options) id (length names + 1)
+tape_at options [] id e = as_id (λ id. RuleAt (tape_rules options) id 1) (codes "tape") id e (record { rule = name_at 1 (codes "tape"); at = refl; same = refl; once = name_once 1 (codes "tape"); found = refl })
+tape_at options (a ∷ []) id e = as_id (λ id. RuleAt (tape_rules options) id 2) (codes "settings") id e (record { rule = further_at 2 (codes "settings"); at = refl; same = refl; once = further_once 2 (codes "settings"); found = refl })
+tape_at options (a ∷ b ∷ names) id e = cc
+
+-- The arguments of a command of a tape are as the walk needs them.
+pub tape_arguments : (options : List Text) → AreTapeNames options → Arguments (tape_rules options) tape_ids options
+tape_arguments options free = record {
+  at = tape_at options;
+  full = λ names e. rw e (by_index options (length names + 1));
+  fresh = tape_fresh;
+  named = tape_named options free;
+  option_long = by_long options;
+  option_id = λ id is. rw (
+    unknown_differs options (codes "tape") id free.tape is,
+    unknown_differs options (codes "settings") id free.settings is,
+  ) (by_id options id is);
+  no_long = by_no_long options;
+  no_short = by_short options;
+  once_at = λ position a found. once_found (at_position position) (tape_rules options) a (single options) found;
+  few = omega arith;
+  no_default = defaults_stay (tape_rules options) (refl, (refl, no_defaults options));
+  no_default_fault = defaults_pass (tape_rules options) (refl, (refl, no_defaults options));
 }
 
 -- The arguments of a command without words are as the walk needs them.
@@ -419,6 +472,50 @@ pair_ends name options kept what free is fault rows (a ∷ b ∷ d ∷ []) marke
       none_required options (map row_of_use uses),
     ) (reads_as row uses names marked story is all refl))
 pair_ends name options kept what free is fault rows (a ∷ b ∷ d ∷ e ∷ names) marked (checked uses story f g) = absurd (omega (arith, story.few_names))
+
+-- The row of a command of a tape.
+abbrev pub tape_row : Text → List Text → Journal → Task → Listing
+tape_row name options kept what = listing name (codes "tape" ∷ []) settings_word options kept what
+
+-- Each parse of a command of a tape ends with the listed command.
+pub tape_ends : (name : Text) (options : List Text) (kept : Journal) (what : Task) → AreTapeNames options
+    → ((given : List Row) → command_in name given ≡ command_from given (tape_row name options kept what)) → Ends (tape_row name options kept what) (tape_rules options)
+tape_ends name options kept what free is fault rows [] marked (faulty bad many) = fails fault _ _ bad refl
+tape_ends name options kept what free is fault rows (a ∷ []) marked (faulty bad (inl many)) = absurd (omega (arith, many))
+tape_ends name options kept what free is fault rows (a ∷ []) marked (faulty bad (inr twice)) = fails fault _ _ bad (rw twice refl)
+tape_ends name options kept what free is fault rows (a ∷ b ∷ []) marked (faulty bad (inl many)) = absurd (omega (arith, many))
+tape_ends name options kept what free is fault rows (a ∷ b ∷ []) marked (faulty bad (inr twice)) = fails fault _ _ bad (rw twice refl)
+tape_ends name options kept what free is fault rows (a ∷ b ∷ d ∷ names) marked (faulty bad many) =
+    fails fault _ _ bad (longer (tape_row name options kept what) (a ∷ b ∷ d ∷ names) marked (omega arith))
+tape_ends name options kept what free is fault rows [] marked (checked uses story f g) =
+    checked_as name (tape_rules options) fault rows (map row_of_use uses) None f g (rw (given_name tape_ids options uses [] marked (codes "tape") story free.tape) refl)
+tape_ends name options kept what free is fault rows (a ∷ []) marked (checked uses story f g) =
+    let row = tape_row name options kept what in
+    let names = a ∷ [] in
+    let all : names_of (map row_of_use uses) row ≡ Some names
+    = rw (
+      first_name tape_ids options uses names marked (codes "tape") story free.tape,
+      first_name tape_ids options uses names marked (codes "settings") story free.settings,
+    ) refl in
+    checked_as name (tape_rules options) fault rows (map row_of_use uses) (listed_by row names marked) f g
+    (rw (
+      given_name tape_ids options uses names marked (codes "tape") story free.tape,
+      none_required options (map row_of_use uses),
+    ) (reads_as row uses names marked story is all refl))
+tape_ends name options kept what free is fault rows (a ∷ b ∷ []) marked (checked uses story f g) =
+    let row = tape_row name options kept what in
+    let names = a ∷ b ∷ [] in
+    let all : names_of (map row_of_use uses) row ≡ Some names
+    = rw (
+      first_name tape_ids options uses names marked (codes "tape") story free.tape,
+      first_name tape_ids options uses names marked (codes "settings") story free.settings,
+    ) refl in
+    checked_as name (tape_rules options) fault rows (map row_of_use uses) (listed_by row names marked) f g
+    (rw (
+      given_name tape_ids options uses names marked (codes "tape") story free.tape,
+      none_required options (map row_of_use uses),
+    ) (reads_as row uses names marked story is all refl))
+tape_ends name options kept what free is fault rows (a ∷ b ∷ d ∷ names) marked (checked uses story f g) = absurd (omega (arith, story.few_names))
 
 -- The row of a command without words.
 abbrev pub alone_row : Text → List Text → Journal → Task → Listing

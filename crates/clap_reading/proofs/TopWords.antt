@@ -23,7 +23,7 @@ use Rattle.command_words.specs.declared.table.Task.TheVariants as task
 use Rattle.clap_reading.proofs.Readings.{check_of, reads_all}
 use Rattle.clap_reading.proofs.Steps.{at_rest, bundle_fails, first_some, going, leaf, or_else-none}
 use Rattle.clap_reading.proofs.Stories.{Outcome, begun}
-use Rattle.clap_reading.proofs.Subcommands.{ArePairNames, Ends, IsWordName, alone_arguments, alone_ends, alone_row, ids_of, one_arguments, one_ends, one_row, one_rules, option_rules, pair_arguments, pair_ends, pair_row, pair_rules}
+use Rattle.clap_reading.proofs.Subcommands.{ArePairNames, AreTapeNames, Ends, IsWordName, alone_arguments, alone_ends, alone_row, ids_of, one_arguments, one_ends, one_row, one_rules, option_rules, pair_arguments, pair_ends, pair_row, pair_rules, tape_arguments, tape_ends, tape_row, tape_rules}
 use Rattle.clap_reading.proofs.Uses.{same_text}
 use Rattle.clap_reading.proofs.Walks.{AllTexts, Arguments, end_of, rest_fault}
 use Rattle.clap_reading.proofs.WordKinds.{WordKind, dashes, kind_of_word, listed, long, name, short}
@@ -47,7 +47,8 @@ built_program = record {
       ∷ leaf (codes "edit") (one_rules (codes "edits") [])
       ∷ leaf (codes "moves") (option_rules []) ∷ leaf (codes "state") (option_rules []) ∷ leaf (codes "zones") (one_rules (codes "zones") [])
       ∷ leaf (codes "branch") (one_rules (codes "meetings") []) ∷ leaf (codes "make") (one_rules (codes "number") turret_options)
-      ∷ leaf (codes "expand") (one_rules (codes "tape") []) ∷ [];
+      ∷ leaf (codes "expand") (one_rules (codes "tape") [])
+      ∷ leaf (codes "plain") (tape_rules []) ∷ [];
 }
 
 -- The names that the first word may be.
@@ -129,7 +130,7 @@ IsUnknown word (row ∷ rows) = (bytes_eq row.name word ≡ false) × IsUnknown 
 -- An unknown word meets no subcommand.
 meets_none : (word : Text) → IsUnknown word listings → subcommand_met names_top idle word ≡ None
 unfolding listings
-meets_none word u = rw (u.0, u.1.0, u.1.1.0, u.1.1.1.0, u.1.1.1.1.0, u.1.1.1.1.1.0, u.1.1.1.1.1.1.0, u.1.1.1.1.1.1.1.0, u.1.1.1.1.1.1.1.1.0, u.1.1.1.1.1.1.1.1.1.0, u.1.1.1.1.1.1.1.1.1.1.0, u.1.1.1.1.1.1.1.1.1.1.1.0, u.1.1.1.1.1.1.1.1.1.1.1.1.0) refl
+meets_none word u = rw (u.0, u.1.0, u.1.1.0, u.1.1.1.0, u.1.1.1.1.0, u.1.1.1.1.1.0, u.1.1.1.1.1.1.0, u.1.1.1.1.1.1.1.0, u.1.1.1.1.1.1.1.1.0, u.1.1.1.1.1.1.1.1.1.0, u.1.1.1.1.1.1.1.1.1.1.0, u.1.1.1.1.1.1.1.1.1.1.1.0, u.1.1.1.1.1.1.1.1.1.1.1.1.0, u.1.1.1.1.1.1.1.1.1.1.1.1.1.0) refl
 
 -- An unknown first word is a fault, unless it is `--`.
 unknown_turn_fails : (word : Text) → subcommand_met names_top idle word ≡ None → WordKind [] word → bytes_eq word (codes "--") ≡ false
@@ -237,6 +238,12 @@ pair_is : (called : Text) (options : List Text) (kept : Journal) (what : Task) �
 pair_is called options kept what free met is rest texts = known called (pair_rules options) rest met.first met.none met.found
     ∙ subcommand_is (pair_row called options kept what) (pair_rules options) (pair_ends called options kept what free is) (pair_arguments options free) rest texts
 
+-- A row of a tape is known.
+tape_is : (called : Text) (options : List Text) (kept : Journal) (what : Task) → AreTapeNames options → IsMet called (tape_rules options)
+    → IsRowOf called (tape_row called options kept what) → IsKnown (tape_row called options kept what)
+tape_is called options kept what free met is rest texts = known called (tape_rules options) rest met.first met.none met.found
+    ∙ subcommand_is (tape_row called options kept what) (tape_rules options) (tape_ends called options kept what free is) (tape_arguments options free) rest texts
+
 -- A row without words is known.
 alone_is : (called : Text) (options : List Text) (kept : Journal) (what : Task) → IsMet called (option_rules options)
     → IsRowOf called (alone_row called options kept what) → IsKnown (alone_row called options kept what)
@@ -278,7 +285,10 @@ all_known = (
                         one_is (codes "make") (codes "number") turret_options journal.Write task.Make (record { own = refl; free = refl }) (record { first = refl; none = refl; found = refl }) (λ given. refl),
                         (
                           one_is (codes "expand") (codes "tape") [] journal.None task.Expand (record { own = refl; free = refl }) (record { first = refl; none = refl; found = refl }) (λ given. refl),
-                          tt,
+                          (
+                            tape_is (codes "plain") [] journal.None task.Plain (record { tape = refl; settings = refl }) (record { first = refl; none = refl; found = refl }) (λ given. refl),
+                            tt,
+                          ),
                         ),
                       ),
                     ),

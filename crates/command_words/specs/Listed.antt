@@ -167,17 +167,19 @@ abbrev pub word_command : Task → Text → TurretFiles → Option Command
 word_command task.Edit edits files = Some (command.Edit edits)
 word_command task.Zones zones files = Some (command.Zones zones)
 word_command task.Expand tape files = Some (command.Expand tape)
+word_command task.Plain tape files = Some (command.Plain tape None)
 word_command task.Branch meetings files = option_map command.Branch (number_of 0 MOST_RECORDS meetings)
 word_command task.Make number files = option_map (λ n. command.Make n files) (number_of 0 LAST_MADE number)
 word_command _ word files = None
 
--- the command of a task that has the names of a pair
+-- the command of a task that has two or three words: those of a pair, or a tape and its settings
 abbrev pub pair_command : Task → PairNames → Limits → TurretFiles → Option Command
 pair_command task.Verify pair limits files = Some (command.Verify pair.left pair.right pair.settings)
 pair_command task.Trace pair limits files = Some (command.Trace pair.left pair.right pair.settings limits.blocks)
 pair_command task.Waits pair limits files = Some (command.Waits pair.left pair.right pair.settings limits.outside)
 pair_command task.Races pair limits files = Some (command.Races pair.left pair.right pair.settings)
 pair_command task.Run pair limits files = Some (command.Run pair.left pair.right pair.settings limits.blocks files)
+pair_command task.Plain pair limits files = Some (command.Plain pair.left (Some pair.right))
 pair_command _ pair limits files = None
 
 -- the command that a task makes of its words, by how many there are
@@ -264,6 +266,7 @@ files_in (command.Zones zones) = None
 files_in (command.Branch meetings) = None
 files_in (command.Make number files) = Some files
 files_in (command.Expand tape) = None
+files_in (command.Plain tape settings) = None
 
 -- the command of the words: the first names the row, and the row says how the others are read
 unfoldable pub listed_command : List Text → Option Command

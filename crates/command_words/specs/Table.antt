@@ -7,7 +7,7 @@ use Rattle.command_words.specs.declared.table.Journal.{Journal}
 use Rattle.command_words.specs.declared.table.Journal.TheVariants as journal
 use Rattle.command_words.specs.declared.table.Row.{Row}
 use Rattle.command_words.specs.declared.table.Task.{Task}
-use Rattle.command_words.specs.declared.table.Task.TheVariants.{Verify, Waits, Races, Trace, Run, Resume, Edit, Moves, State, Zones, Branch, Make, Expand}
+use Rattle.command_words.specs.declared.table.Task.TheVariants.{Verify, Waits, Races, Trace, Run, Resume, Edit, Moves, State, Zones, Branch, Make, Expand, Plain}
 
 -- a word, or a part of one: its bytes
 abbrev pub Text : Type 0
@@ -73,7 +73,8 @@ listings =
     ∷ listing (codes "zones") (codes "zones" ∷ []) [] [] journal.Look Zones
     ∷ listing (codes "branch") (codes "meetings" ∷ []) [] [] journal.Look Branch
     ∷ listing (codes "make") (codes "number" ∷ []) [] turret_options journal.Write Make
-    ∷ listing (codes "expand") (codes "tape" ∷ []) [] [] journal.None Expand ∷ []
+    ∷ listing (codes "expand") (codes "tape" ∷ []) [] [] journal.None Expand
+    ∷ listing (codes "plain") (codes "tape" ∷ []) settings_word [] journal.None Plain ∷ []
 
 -- a row of the code, as clauses see it
 abbrev pub row_seen : Row → Listing

@@ -93,6 +93,8 @@ pub enum Command {
     Make(u32, TurretFiles),
     /// Write out the roughing cycles of a tape as plain blocks.
     Expand(Name),
+    /// Write out a shop's tape under settings in the language that the control runs.
+    Plain(Name, Option<Name>),
 }
 
 impl Command {
@@ -116,6 +118,7 @@ impl Command {
             Command::Zones(_) => None,
             Command::Branch(_) => None,
             Command::Expand(_) => None,
+            Command::Plain(_, _) => None,
         }
     }
 }

@@ -214,6 +214,7 @@ fn word_command(
         Task::Edit => Ok(Command::Edit(Name::new(alloc, word)?)),
         Task::Zones => Ok(Command::Zones(Name::new(alloc, word)?)),
         Task::Expand => Ok(Command::Expand(Name::new(alloc, word)?)),
+        Task::Plain => Ok(Command::Plain(Name::new(alloc, word)?, None)),
         Task::Branch => branched(word),
         Task::Make => made(word, files),
         _ => Err(WordsFault::Usage),
@@ -240,6 +241,8 @@ fn pair_command(
         Task::Waits => Ok(Command::Waits(left, right, settings, limits.outside)),
         Task::Races => Ok(Command::Races(left, right, settings)),
         Task::Run => Ok(Command::Run(left, right, settings, limits.blocks, files)),
+        // (two words: the tape and its settings)
+        Task::Plain => Ok(Command::Plain(left, Some(right))),
         _ => Err(WordsFault::Usage),
     }
 }

@@ -22,6 +22,7 @@ pub enum Task {
     Branch,
     Make,
     Expand,
+    Plain,
 }
 
 /// What a command does with the journal of a run.
@@ -72,7 +73,7 @@ macro_rules! command_rows {
 }
 
 /// The commands of the program, as specs/Table.antt lists them.
-const ROWS: [Row; 13] = command_rows! {
+const ROWS: [Row; 14] = command_rows! {
     "verify" ["left", "right"] ["settings"] [] None Verify;
     "waits" ["left", "right"] ["settings"] ["outside"] None Waits;
     "races" ["left", "right"] ["settings"] [] None Races;
@@ -86,6 +87,7 @@ const ROWS: [Row; 13] = command_rows! {
     "branch" ["meetings"] [] [] Look Branch;
     "make" ["number"] [] ["turret1", "turret2"] Write Make;
     "expand" ["tape"] [] [] None Expand;
+    "plain" ["tape"] ["settings"] [] None Plain;
 };
 
 /// What the command that the words name does with the journal: nothing, if they name none. They do

@@ -4,5 +4,6 @@ pub mod TextsLent
 pub mod OfFiles
 pub mod TextsShown
 pub mod ExpansionTold
+pub mod PlainTold
 pub mod ZonesTold
 mod EditsTold

@@ -11,10 +11,10 @@ use Rattle.block_order.specs.Answers.{IfFault}
 use Rattle.lathe_calls.specs.Texts.{three_texts}
 use Rattle.lathe_calls.specs.declared.pair_texts.TheConstants.{LONGEST_SETTINGS}
 use Rattle.lathe_looks.specs.declared.fetching.FileFault.{FileFault}
-use Rattle.lathe_looks.specs.declared.files.CommandFile.TheVariants.{Settings}
+use Rattle.lathe_looks.specs.declared.files.CommandFile.TheVariants.{Settings, Tape}
 use Rattle.lathe_looks.specs.declared.fetching.Unfetched.{Unfetched}
 use Rattle.lathe_calls.specs.Answers.{Answer}
-use Rattle.lathe_looks.specs.Named.{Named, files_of, most_bytes, named_file, only_text, pair_texts, settings_named, tapes_of}
+use Rattle.lathe_looks.specs.Named.{Named, files_of, most_bytes, named_file, only_text, pair_texts, settings_named, tape_texts, tape_with_settings, tapes_of}
 use Rattle.lathe_looks.specs.Fetched.{AreAsked, AreHad, AreReadAs, AreSome, AreTexts, FileCause, failed, absent, too_long, IsNotHad, IsOfFiles, answers, not_had, unread, IsText, IsUnfetched, Reaches, file_of, unfetched_answer}
 
 -- The line of the file that can't be read is due to a command of these files.
@@ -147,6 +147,34 @@ pair_had old middle new l r settings a b c had same read = record {
     asked = asked_more old.asked middle.asked new.asked (tapes_of l r) (settings_named settings) had.asked read.had.asked;
   };
   are = ap (three_texts a b) read.are;
+}
+
+-- If a file has a text, then why the files after it have none is why all of them have none.
+pub behind_one : (old middle new : ShelfState) (one : Named) (a : List ℕ) (more : List Named) (error : Failing Unfetched)
+    → IsText old.files one a → AreAsked old.asked middle.asked (one ∷ []) → HoldsOn old middle → old.faults ≤ middle.faults
+    → IsUnfetched middle new more error → IsUnfetched old new (one ∷ more) error
+behind_one old middle new one a more (Fault missing) had asked same later is = record {
+  before = suc is.before;
+  reached = ((a, had), subst (λ told. Reaches told (file_of missing) more is.before) same is.reached);
+  cause = cause_before old middle new (file_of missing) missing.fault same later is.cause;
+  asked = asked_more old.asked middle.asked new.asked (one ∷ []) (take (suc is.before) more) asked is.asked;
+}
+behind_one old middle new one a more NoMemory had asked same later is =
+    (suc is.0, asked_more old.asked middle.asked new.asked (one ∷ []) (take is.0 more) asked is.1)
+
+-- A tape with its text, and the settings as they were read, are the texts of a tape.
+pub tape_and_settings_had : (old middle new : ShelfState) (name : List ℕ) (settings : Option (List ℕ)) (a c : List ℕ)
+    → IsText old.files (named_file Tape name) a → AreAsked old.asked middle.asked (named_file Tape name ∷ []) → middle.faults ≡ old.faults
+    → HoldsOn old middle → AreReadAs only_text middle new (settings_named settings) c
+    → AreReadAs tape_texts old new (tape_with_settings name settings) (record { tape = a; settings = c })
+tape_and_settings_had old middle new name settings a c had asked calm same read = record {
+  texts = a ∷ read.texts;
+  had = record {
+    each = (had, subst (λ told. AreTexts told (settings_named settings) read.texts) same read.had.each);
+    calm = read.had.calm ∙ calm;
+    asked = asked_more old.asked middle.asked new.asked (named_file Tape name ∷ []) (settings_named settings) asked read.had.asked;
+  };
+  are = ap (λ (own : List ℕ). record { tape = a; settings = own }) read.are;
 }
 
 -- Settings whose file was had are read as its text.

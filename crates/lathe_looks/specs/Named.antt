@@ -45,6 +45,10 @@ files_of left right settings = named_file Left left ∷ named_file Right right �
 abbrev pub tape_named : List ℕ → List Named
 tape_named name = named_file Tape name ∷ []
 
+-- The files of `plain`: the tape, and the settings if they are named.
+abbrev pub tape_with_settings : List ℕ → Option (List ℕ) → List Named
+tape_with_settings name settings = named_file Tape name ∷ settings_named settings
+
 -- The one file of `zones`.
 abbrev pub zones_named : List ℕ → List Named
 zones_named name = named_file Zones name ∷ []
@@ -56,6 +60,17 @@ edits_named name = named_file Edits name ∷ []
 -- The texts of a pair, from those of its files in their order. Settings that no file has are empty.
 abbrev pub pair_texts : List (List ℕ) → Texts
 pair_texts texts = record { left = get_or texts 0 []; right = get_or texts 1 []; settings = get_or texts 2 [] }
+
+-- The texts of a tape and of its settings.
+pub record TapeView : Type 0 where
+  -- the text of the tape
+  pub tape : List ℕ
+  -- the text of the settings
+  pub settings : List ℕ
+
+-- The texts of `plain`, from those of its files in their order. Settings that no file has are empty.
+abbrev pub tape_texts : List (List ℕ) → TapeView
+tape_texts texts = record { tape = get_or texts 0 []; settings = get_or texts 1 [] }
 
 -- The text of the one file of a list; of none it is empty.
 abbrev pub only_text : List (List ℕ) → List ℕ

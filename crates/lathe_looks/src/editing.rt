@@ -60,4 +60,3 @@ fn tell_bad_edit<K: Sink>(fault: EditFault, out: &mut K) -> u8
         Status::Refused as u8,
     )
 }
-

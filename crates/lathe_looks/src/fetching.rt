@@ -5,7 +5,8 @@ ghost use Rattle.block_order.specs.Answers.{IfFault};
 ghost use Rattle.nc_outside.specs.Files.{HoldsOn};
 ghost use Rattle.lathe_calls.specs.Answers.{Ends, IsJust, tells};
 ghost use Rattle.lathe_calls.specs.declared.pair_texts.TheConstants.{LONGEST_SETTINGS};
-ghost use Rattle.lathe_looks.specs.Named.{edits_named, named_file, only_text, pair_texts, settings_named, tape_named, zones_named};
+ghost use Rattle.lathe_looks.specs.Named.{edits_named, named_file, only_text, pair_texts, settings_named, tape_named, tape_texts, tape_with_settings, zones_named};
+ghost use Rattle.lathe_looks.specs.Plained.{tape_texts_of};
 ghost use Rattle.lathe_looks.specs.Texts.{AreShort, files_in, tape_files, texts_of};
 ghost use Rattle.lathe_looks.specs.Fetched.{AreAsked, AreHad, AreReadAs, FileCause, IsText, IsUnfetched, fault_status, fault_text, file_of, unfetched_answer};
 
@@ -43,6 +44,15 @@ pub struct Unfetched<'a> {
 pub struct Texts {
     /// The texts of the tapes, by path.
     pub tapes: Both<Vec<u8>>,
+    /// The text of the settings.
+    pub settings: Vec<u8>,
+}
+
+/// The texts of a tape and of its settings.
+#[derive(Drop)]
+pub struct TapeTexts {
+    /// The text of the tape.
+    pub tape: Vec<u8>,
     /// The text of the settings.
     pub settings: Vec<u8>,
 }
@@ -156,6 +166,31 @@ pub(crate) fn fetch_tape<'a, H: Shelf>(
 {
     match fetch(alloc, shelf, CommandFile::Tape, name) {
         Ok(text) => Ok(text),
+        Err(error) => Err(error),
+    }
+}
+
+/// The texts of the tape of `plain` and then of the settings; without a name of settings they are
+/// empty, and the shelf is not asked for any. Errors: the first file that can't be read, or out of
+/// memory.
+pub(crate) fn fetch_tape_texts<'a, H: Shelf>(
+    alloc: Global,
+    shelf: &mut H,
+    name: &'a str,
+    settings: Option<&'a str>,
+) -> Result<TapeTexts, Failing<Unfetched<'a>>>
+    ensures texts { IfOk result (λ texts. AreReadAs tape_texts (H.state shelf.old) (H.state shelf.new)
+        (tape_with_settings name.now (option_map (λ s. s.now) settings.entry)) (tape_texts_of texts)) }
+    ensures short { IfOk result (λ texts. length texts.settings.items ≤ LONGEST_SETTINGS) }
+    ensures not_had { IfErr result (IsUnfetched (H.state shelf.old) (H.state shelf.new)
+        (tape_with_settings name.now (option_map (λ s. s.now) settings.entry))) }
+{
+    let tape = match fetch(alloc, shelf, CommandFile::Tape, name) {
+        Ok(text) => text,
+        Err(error) => return Err(error),
+    };
+    match fetch_settings(alloc, shelf, settings) {
+        Ok(settings) => Ok(TapeTexts { tape, settings }),
         Err(error) => Err(error),
     }
 }

@@ -157,6 +157,7 @@ module _ {D : Type 0} (state : D → DiskState) where
   due_left second (command.Zones name) old new answer due = zones_left (zones_named name) old new answer due
   due_left second (command.Branch n) old new answer due = branch_left second n old.lathe new.lathe old.second new.second answer due.0 due.1
   due_left second (command.Expand tape) old new answer due = due.1
+  due_left second (command.Plain tape settings) old new answer due = due.1
 
   -- a command that calls neither the disk nor a turret does what any kind may
   rests_left : (asked : Kind) (old new : LatheState) → RestsWhole old new → Leaves state asked old new

@@ -55,12 +55,16 @@ use Rattle.lathe_looks.specs.declared.showing.Showing.{Showing}
 use Rattle.lathe_looks.specs.declared.showing.Showing.TheVariants.{Moves, State}
 use Rattle.tape_expand.specs.declared.fault.ExpandFault.{ExpandFault}
 use Rattle.tape_expand.specs.Faults.{expand_number}
+use Rattle.lathe_looks.specs.Plained as plain
+use Rattle.lathe_looks.specs.Plained.{IsPlained, plain_refusal_text}
+use Rattle.tape_plain.specs.Faults.{plain_number}
+use Rattle.tape_plain.specs.declared.fault.PlainTapeFault.{PlainTapeFault}
 use Rattle.lathe_looks.specs.Expanded as expand
 use Rattle.lathe_looks.specs.Expanded.{IsExpanded, refusal_text}
 use Rattle.lathe_looks.specs.Fetched.{AreTexts, FileCause, IsOfFiles, not_had, unread, answers, fault_status, fault_text}
 use Rattle.lathe_calls.specs.Judged as judged
 use Rattle.lathe_calls.specs.Judged.{IsJudged}
-use Rattle.lathe_looks.specs.Named.{Named, only_text, edits_named, files_of, pair_texts, tape_named, zones_named}
+use Rattle.lathe_looks.specs.Named.{Named, only_text, edits_named, files_of, pair_texts, TapeView, tape_named, tape_texts, tape_with_settings, zones_named}
 use Rattle.edit_texts.specs.declared.edit_list.PathEdit.{PathEdit}
 use Rattle.lathe_looks.specs.Edited.{bad_edit_text}
 use Rattle.lathe_top.specs.Branched as branch
@@ -69,8 +73,8 @@ use Rattle.lathe_top.proofs.BranchesDue.{branch_once}
 use Rattle.lathe_top.specs.Edited as edit
 use Rattle.lathe_top.specs.Edited.{IsEdited, IsEditedRun, IsEditOf}
 use Rattle.lathe_top.proofs.EditsDue.{agree_told, found_there, one_told, pair_there, same_told}
-use Rattle.lathe_looks.specs.Zoned.{bad_zone_text, zones_text}
-use Rattle.zone_cell.specs.Zones.{ZonesView}
+use Rattle.lathe_looks.specs.Zoned.{bad_zone_text, plan_text}
+use Rattle.zone_cell.specs.declared.plan.Plan.{Plan}
 use Rattle.lathe_top.specs.Zoned.{IsZoned, bad_zones, unread_zones, zoned}
 use Rattle.lathe_top.proofs.ZonesDue.{zones_hang}
 use Rattle.lathe_looks.specs.Shown.{IsShown, shown, unshown, unfound_answer, bad_text, shown_text}
@@ -266,6 +270,20 @@ expanded_once text a b (expand.refused {fault} {line} denied v) (expand.refused 
 expanded_once text a b (expand.refused denied v) expand.unexpanded = tt
 expanded_once text a b expand.unexpanded other = tt
 
+-- one answer is due to a tape that is written out under settings
+plained_once : (texts : TapeView) (a b : Answer) → IsPlained texts a → IsPlained texts b → Agree a b
+plained_once texts a b (plain.plained {bytes} is) (plain.plained {bytes = other} too) = (refl, (let one : bytes ≡ other = cc in one))
+plained_once texts a b (plain.plained is) (plain.not_plained denied v) = absurd cc
+plained_once texts a b (plain.plained is) plain.unplained = tt
+plained_once texts a b (plain.not_plained denied v) (plain.plained is) = absurd cc
+plained_once texts a b (plain.not_plained {fault} {line} denied v) (plain.not_plained {fault = fault'} {line = line'} too w) =
+    let same : fault ≡ fault' = cc in
+    let cause : v.0 ≡ w.0 =
+    one_cause (plain_number fault') v.0 w.0 (subst (λ (f : PlainTapeFault). IsCauseOf (plain_number f) v.0) same v.1) w.1 in
+    (refl, v.2 ∙ (λ i. plain_refusal_text (cause i) (same i)) ∙ sym w.2)
+plained_once texts a b (plain.not_plained denied v) plain.unplained = tt
+plained_once texts a b plain.unplained other = tt
+
 -- the same pair has the same machine after the same records
 machine_same : (pair other : Verified) (entries others : List Entry) → IsSamePair pair other → entries ≡ others
     → machine_behind pair entries ≡ machine_behind other others
@@ -423,10 +441,10 @@ module _ (one_run : OneRun) (one_machine : OneMachine) (old new : DiskState) (by
   shown_once showing a b one two = shown_by_once (shown_text showing) (shown_hangs showing) a b one two
 
   -- one text of `zones` is due to one file of zones
-  same_zones : (zones other : ZonesView) (a b : Answer) → zones ≡ other → IsShown (zones_text zones) old new a → IsShown (zones_text other) old new b
+  same_zones : (plan other : Plan) (a b : Answer) → plan ≡ other → IsShown (plan_text plan) old new a → IsShown (plan_text other) old new b
       → Agree a b
-  same_zones zones other a b same one two =
-      shown_by_once (zones_text other) (zones_hang other) a b (subst (λ (z : ZonesView). IsShown (zones_text z) old new a) same one) two
+  same_zones plan other a b same one two =
+      shown_by_once (plan_text other) (zones_hang other) a b (subst (λ (p : Plan). IsShown (plan_text p) old new a) same one) two
 
   -- one answer of `branch` is due, over a second disk that told its bytes and did not fail
   branched_once : {E : Type 0} (second : E → DiskState) (n : ℕ) (onto left : E) (there : List ℕ) → Reads (second onto) there
@@ -582,8 +600,8 @@ module _ (one_run : OneRun) (one_machine : OneMachine) (old new : LatheState) (b
   zoned_once text a b (unread_zones rests) two = tt
   zoned_once text a b (zoned is told rest) (bad_zones too rests) = absurd cc
   zoned_once text a b (zoned is told rest) (unread_zones rests) = agree_nothing a
-  zoned_once text a b (zoned {zones} is told rest) (zoned {zones = other} too told' rest') =
-      let same : zones ≡ other = cc in same_zones one_run one_machine old.disk new.disk bytes holds calm zones other a b same told told'
+  zoned_once text a b (zoned {plan} is told rest) (zoned {plan = other} too told' rest') =
+      let same : plan ≡ other = cc in same_zones one_run one_machine old.disk new.disk bytes holds calm plan other a b same told told'
 
 -- two answers of `edit`, over one disk that made its bytes known and did not fail
 module _ (one_run : OneRun) (one_machine : OneMachine) (old new : LatheState) (bytes : List ℕ) (holds : Reads old.disk bytes)
@@ -674,6 +692,9 @@ module _ {D E : Type 0} (state : D → DiskState) (second : E → DiskState) (bo
   due_to_once (command.Expand tape) a b files others one two =
       files_once only_text files.0.0 (tape_named tape) (Unit {0}) IsExpanded call.before.shelf call.after.shelf files.0.1 files.1 expanded_once
       a b one.0 two.0
+  due_to_once (command.Plain tape settings) a b files others one two =
+      files_once tape_texts files.0.0 (tape_with_settings tape settings) (Unit {0}) IsPlained call.before.shelf call.after.shelf files.0.1 files.1
+      plained_once a b one.0 two.0
 
   -- one answer is due to a call, if the outside tells what it holds and did not fail
   pub due_once : Serves second call → (a b : Answer) → IsDue state second call a → IsDue state second call b → Agree a b

@@ -196,6 +196,7 @@ module _ {D E : Type 0} (state : D → DiskState) (second : E → DiskState) (wa
       zones_first state wanted old new some of_disk of_turret (zones_named name) call.before.shelf call.after.shelf a due
   command_first (command.Branch n) a due = branched_first state wanted old new some of_disk of_turret second n _ _ a due.0 due.1
   command_first (command.Expand tape) a due = absurd (not_rested state wanted old new some of_disk of_turret due.1)
+  command_first (command.Plain tape settings) a due = absurd (not_rested state wanted old new some of_disk of_turret due.1)
 
   -- an answer of the call has the wanted status
   call_first : (a : Answer) → IsDue state second call a → HasStatus wanted a
@@ -260,6 +261,7 @@ module _ {D E : Type 0} (state : D → DiskState) (second : E → DiskState) (ca
   command_second (command.Branch n) a due same = branched_second n _ _ a due.0
   command_second (command.Make n turrets) a due same = absurd (called same)
   command_second (command.Expand tape) a due same = absurd (called same)
+  command_second (command.Plain tape settings) a due same = absurd (called same)
 
   -- the status of a call: 6, if a call of the second disk failed
   pub second_first : (a : Answer) → IsDue state second call a → HasStatus exit.disk_fault a

@@ -33,6 +33,7 @@ journal_by task.Zones = journal.Look
 journal_by task.Branch = journal.Look
 journal_by task.Make = journal.Write
 journal_by task.Expand = journal.None
+journal_by task.Plain = journal.None
 
 -- a command is of a kind that does this with the journal
 abbrev Does : Command → Journal → Type 0
@@ -70,6 +71,7 @@ plain_does task.Zones blocks outside files asked is = absurd cc
 plain_does task.Branch blocks outside files asked is = absurd cc
 plain_does task.Make blocks outside files asked is = absurd cc
 plain_does task.Expand blocks outside files asked is = absurd cc
+plain_does task.Plain blocks outside files asked is = absurd cc
 
 -- so does the command of a task that has one word
 word_does : (what : Task) (a : Text) (files : TurretFiles) (asked : Command) → word_command what a files ≡ Some asked → Does asked (journal_by what)
@@ -89,6 +91,8 @@ word_does task.Branch a files asked is = branch_number (number_of 0 4000000 a) a
 word_does task.Make a files asked is = made_number files (number_of 0 999999 a) asked is
 word_does task.Expand a files asked is =
     let same : command.Expand a ≡ asked = cc in subst (λ x. Does x journal.None) same refl
+word_does task.Plain a files asked is =
+    let same : command.Plain a None ≡ asked = cc in subst (λ x. Does x journal.None) same refl
 
 -- so does the command of a task that has the names of a pair
 pair_does : (what : Task) (a b : Text) (c : Option Text) (blocks : ℕ) (outside : Option ProgramRange) (files : TurretFiles) (asked : Command)
@@ -112,6 +116,8 @@ pair_does task.Zones a b c blocks outside files asked is = absurd cc
 pair_does task.Branch a b c blocks outside files asked is = absurd cc
 pair_does task.Make a b c blocks outside files asked is = absurd cc
 pair_does task.Expand a b c blocks outside files asked is = absurd cc
+pair_does task.Plain a b c blocks outside files asked is =
+    let same : command.Plain a (Some b) ≡ asked = cc in subst (λ x. Does x journal.None) same refl
 
 -- the command that a task makes does with the journal what the task does
 does_as : (what : Task) (names : List Text) (blocks : ℕ) (outside : Option ProgramRange) (files : TurretFiles) (asked : Command)

@@ -267,6 +267,7 @@ module _ {D E : Type 0} (state : D → DiskState) (second : E → DiskState) (ca
   due_streams (command.Make number turrets) answer due makes uncut = run_streams _ _ _ answer due.0 uncut
   due_streams (command.Zones zones) answer due makes uncut = absurd makes
   due_streams (command.Expand tape) answer due makes uncut = absurd makes
+  due_streams (command.Plain tape settings) answer due makes uncut = absurd makes
   due_streams (command.Edit edits) answer due makes uncut = absurd makes
   due_streams (command.Branch meetings) answer due makes uncut = absurd makes
 

@@ -16,9 +16,10 @@ use Rattle.nc_outside.specs.Written.{SinkState, Writes}
 use Rattle.lathe_looks.specs.declared.showing.Showing.TheVariants as showing
 use Rattle.lathe_calls.specs.Answers.{Answer, tells, nothing, Ends, NoPutFailed}
 use Rattle.lathe_looks.specs.Expanded.{IsExpanded}
+use Rattle.lathe_looks.specs.Plained.{IsPlained}
 use Rattle.lathe_calls.specs.Judged.{IsJudged}
 use Rattle.lathe_calls.specs.Due.{IsOfPair}
-use Rattle.lathe_looks.specs.Named.{Named, only_text, edits_named, files_of, pair_texts, tape_named, zones_named}
+use Rattle.lathe_looks.specs.Named.{Named, only_text, edits_named, files_of, pair_texts, tape_named, tape_texts, tape_with_settings, zones_named}
 use Rattle.lathe_looks.specs.Shown.{IsShown, shown_text}
 use Rattle.lathe_calls.specs.Races.{IsRaceAnswer}
 use Rattle.lathe_calls.specs.Statuses as exit
@@ -115,6 +116,8 @@ IsDueTo state second (command.Branch meetings) old new answer =
     IsBranched second meetings old.lathe.disk new.lathe.disk old.second new.second answer × AreAtRest old.lathe new.lathe × AsksNothing old new
 IsDueTo state second (command.Expand tape) old new answer =
     IsOfFilesAlone only_text (tape_named tape) IsExpanded old.lathe new.lathe old.shelf new.shelf answer
+IsDueTo state second (command.Plain tape settings) old new answer =
+    IsOfFilesAlone tape_texts (tape_with_settings tape settings) IsPlained old.lathe new.lathe old.shelf new.shelf answer
 
 -- the command was done, and the call ended with this status
 abbrev pub Performs : {D E : Type 0} → (D → DiskState) → (E → DiskState) → Command → TopState E → TopState E → ℕ → Type 0

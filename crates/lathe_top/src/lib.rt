@@ -2,7 +2,7 @@
 //! turret for each path, and a sink for its text.
 //!
 //! [`top`] reads the words, does what they say, writes the answer and gives the status. `verify`,
-//! `waits`, `races`, `trace` and `expand` answer over files alone. `run` begins a journal on the
+//! `waits`, `races`, `trace`, `expand` and `plain` answer over files alone. `run` begins a journal on the
 //! disk and runs both paths at once, each with its turret, and `resume` goes on with the run that
 //! the journal holds; both end with the report of all its records. `make` runs a made pair, and
 //! ends with a summary if both paths have ended, and else with the report. `edit` makes an

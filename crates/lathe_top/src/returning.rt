@@ -15,7 +15,7 @@ ghost use Rattle.lathe_top.specs.Outside.{outside_in};
 use crate::branching::branch_off;
 use crate::editing::edit;
 use crate::held::{Ended, Lathe};
-use crate::looking::{answer_pair, look, show_zoned, write_out};
+use crate::looking::{answer_pair, look, show_zoned, write_out, write_plain};
 use crate::outcome::Outcome;
 use clap_reading::read_words;
 use command_words::{Command, Name, ProgramRange, WordsFault};
@@ -46,6 +46,7 @@ pub fn makes_run(command: &Command) -> bool
         Command::Zones(_) => false,
         Command::Branch(_) => false,
         Command::Expand(_) => false,
+        Command::Plain(_, _) => false,
     }
 }
 
@@ -173,6 +174,10 @@ pub(crate) fn perform_no_run<H: Shelf, D: Disk, E: Disk, T: Turret, K: Sink>(
         Command::Zones(zones) => (show_zoned(alloc, zones.as_str(), shelf, lathe, out), second),
         Command::Branch(meetings) => branch_off(alloc, *meetings, lathe, second, out),
         Command::Expand(tape) => (write_out(alloc, tape.as_str(), shelf, lathe, out), second),
+        Command::Plain(tape, settings) => (
+            write_plain(alloc, tape.as_str(), name_in(settings), shelf, lathe, out),
+            second,
+        ),
         Command::Run(_, _, _, _, _) => unreachable!(),
         Command::Resume(_, _) => unreachable!(),
         Command::Make(_, _) => unreachable!(),

@@ -215,6 +215,15 @@ expand -> usage
 expand l r -> usage
 expand l --blocks 7 -> usage
 expand --tape l -> usage
+plain t -> plain [t]
+plain t s -> plain [t] [s]
+plain -- --t s -> plain [--t] [s]
+plain -- t --s -> plain [t] [--s]
+plain -> usage
+plain t s u -> usage
+plain t --blocks 7 -> usage
+plain --tape t -> usage
+plain t --settings s -> usage
 expan l -> usage
 help -> usage
 --help -> usage
@@ -298,6 +307,16 @@ fn shown(alloc: Global, answer: Result<Command, WordsFault>) -> Result<String, A
         Ok(Command::Expand(tape)) => {
             let tape = tape.as_str();
             format!(in alloc; "expand [{tape}]")
+        }
+        Ok(Command::Plain(tape, settings)) => {
+            let tape = tape.as_str();
+            match settings {
+                Some(settings) => {
+                    let settings = settings.as_str();
+                    format!(in alloc; "plain [{tape}] [{settings}]")
+                }
+                None => format!(in alloc; "plain [{tape}]"),
+            }
         }
         Err(WordsFault::Usage) => String::from_str(alloc, "usage"),
         Err(WordsFault::NoMemory) => String::from_str(alloc, "no memory"),

@@ -38,3 +38,8 @@ returns-in-Branch g c = rw c.in-Branch.is (ends_by _ (λ answer due. ((due.0, du
 
 pub returns-in-Expand : goal.returns-in-Expand
 returns-in-Expand g c = rw c.in-Expand.is (ends_by _ (λ answer due. (due, refl)) (rw c.as_str-in-Expand.ensures at c.write_out.ensures))
+
+pub returns-in-Plain : goal.returns-in-Plain
+returns-in-Plain g c =
+    rw c.in-Plain.is (ends_by _ (λ answer due. (due, refl))
+    (rw (c.as_str-in-Plain.ensures, c.name_in.ensures) at c.write_plain.ensures))

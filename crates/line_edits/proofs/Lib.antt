@@ -1,0 +1,3 @@
+-- The lemmas of edited texts. tape_plain takes ByLines.
+pub mod ByLines
+mod Splicing

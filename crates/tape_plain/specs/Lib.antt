@@ -1,0 +1,7 @@
+-- What callers read: the text that is due (Plain) and the refusals (Faults).
+pub mod Faults
+pub mod Plain
+-- How the text is made.
+pub mod BlockText
+pub mod Draft
+pub mod Skips
