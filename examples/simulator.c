@@ -19,7 +19,7 @@ struct turn { uint8_t path; double time; size_t first, count; };
 struct play { struct lathe_event *events; size_t count; struct turn *turns; size_t turn_count; uint8_t status; double end; };
 
 static const char *const KINDS[] = {"at", "rapid", "feed", "thread", "arc", "dwell", "speed", "limit", "tool", "aux", "block",
-                                    "arrived", "met", "ended", "alarm", "read"};
+                                    "arrived", "met", "ended", "alarm", "read", "shift", "home", "way"};
 
 static void *memory(void *at, size_t size) {
     void *found = realloc(at, size > 0 ? size : 1);
@@ -63,14 +63,14 @@ static void ask(const struct text *texts, const uint8_t *order, size_t count, st
     }
 }
 
-/* How a path stands in its own time: its clock in seconds, where its turret is, and its spindle. */
-struct path { double clock, x, z, speed, limit; int at_surface; };
+/* How a path stands in its own time: its clock in seconds, where its turret is, the shift of X, and its spindle. */
+struct path { double clock, x, z, shift, speed, limit; int at_surface; };
 
 static double rate_of(const struct path *path, const struct lathe_event *event) {
     double feed = (double)event->value / 1e6, turns = path->speed;
     if (event->kind == LATHE_RAPID) return RAPID;
     if (event->kind != LATHE_THREAD && !event->per_revolution) return feed > 0 ? feed : RAPID;
-    if (path->at_surface) turns = path->speed * 1000 / (3.14159265358979 * fmax(fabs(event->x / 1000.0), 1));
+    if (path->at_surface) turns = path->speed * 1000 / (3.14159265358979 * fmax(fabs(event->x / 1000.0 - path->shift), 1));
     if (path->limit > 0) turns = fmin(turns, path->limit);
     return feed * turns > 0 ? feed * turns : RAPID;
 }
@@ -81,6 +81,8 @@ static double time_of(struct path *path, const struct lathe_event *event) {
     switch (event->kind) {
         case LATHE_DWELL: return event->amount / 1000.0;
         case LATHE_SPEED: path->speed = (double)event->amount; path->at_surface = event->at_surface; return 0;
+        case LATHE_WAY: path->at_surface = event->at_surface; return 0;
+        case LATHE_SHIFT: path->shift = x; return 0;
         case LATHE_LIMIT: path->limit = (double)event->amount; return 0;
         case LATHE_RAPID: case LATHE_FEED: case LATHE_THREAD: case LATHE_ARC: break;
         default: return 0;
@@ -107,6 +109,7 @@ static void time_turns(struct play *play) {
         const struct lathe_event *event = &play->events[k];
         struct path *own = &paths[event->path - 1], *other = &paths[2 - event->path];
         if (event->kind == LATHE_PLACED) { own->x = event->x / 1000.0; own->z = event->z / 1000.0; continue; }
+        if (event->records == 0 && event->kind != LATHE_READ) { time_of(own, event); continue; }
         if (event->kind == LATHE_READ || event->records != records) {
             struct turn turn = {event->path, own->clock, k, 0};
             play->turns[play->turn_count++] = turn;
@@ -140,7 +143,7 @@ static void print_play(const struct play *play) {
         for (size_t n = 0; n < play->turns[k].count; n++) {
             const struct lathe_event *event = &play->events[play->turns[k].first + n];
             printf("%10.3f s  path %d  line %d  %s", play->turns[k].time, event->path, (int)event->line, KINDS[event->kind]);
-            if (event->kind >= LATHE_RAPID && event->kind <= LATHE_ARC)
+            if ((event->kind >= LATHE_RAPID && event->kind <= LATHE_ARC) || event->kind == LATHE_SHIFT)
                 printf(" X%.3f Z%.3f", event->x / 1000.0, event->z / 1000.0);
             else if (event->code != 0) printf(" %d", event->code);
             else if (event->amount != 0) printf(" %d", (int)event->amount);

@@ -20,7 +20,7 @@ class Path:
     """How a path stands in its own time: its clock in seconds, where its turret is, and its spindle."""
 
     def __init__(self):
-        self.clock = self.x = self.z = self.speed = self.limit = 0.0
+        self.clock = self.x = self.z = self.shift = self.speed = self.limit = 0.0
         self.at_surface = 0
 
     def _rate(self, event):
@@ -30,7 +30,7 @@ class Path:
         if event.kind != Kind.THREAD and not event.per_revolution:
             return feed if feed > 0 else RAPID
         if self.at_surface:
-            turns = self.speed * 1000 / (3.14159265358979 * max(abs(event.x / 1000), 1.0))
+            turns = self.speed * 1000 / (3.14159265358979 * max(abs(event.x / 1000 - self.shift), 1.0))
         if self.limit > 0:
             turns = min(turns, self.limit)
         return feed * turns if feed * turns > 0 else RAPID
@@ -41,6 +41,10 @@ class Path:
             return event.amount / 1000
         if event.kind == Kind.SPEED:
             self.speed, self.at_surface = float(event.amount), event.at_surface
+        if event.kind == Kind.WAY:
+            self.at_surface = event.at_surface
+        if event.kind == Kind.SHIFT:
+            self.shift = event.x / 1000
         if event.kind == Kind.LIMIT:
             self.limit = float(event.amount)
         if not Kind.RAPID <= event.kind <= Kind.ARC:
@@ -64,6 +68,9 @@ def turns_of(events):
         own, other = paths[event.path], paths[3 - event.path]
         if event.kind == Kind.PLACED:
             own.x, own.z = event.x / 1000, event.z / 1000
+            continue
+        if event.records == 0 and event.kind != Kind.READ:
+            own.make(event)
             continue
         if event.kind == Kind.READ or event.records != records:
             turns.append((event.path, own.clock, []))
@@ -111,7 +118,7 @@ def main(names):
     for path, time, events in turns:
         for event in events:
             said = f"{time:10.3f} s  path {path}  line {event.line}  {NAMES.get(event.kind) or Kind(event.kind).name.lower()}"
-            if Kind.RAPID <= event.kind <= Kind.ARC:
+            if Kind.RAPID <= event.kind <= Kind.ARC or event.kind == Kind.SHIFT:
                 said += f" X{event.x / 1000:.3f} Z{event.z / 1000:.3f}"
             elif event.code or event.amount:
                 said += f" {event.code or event.amount}"

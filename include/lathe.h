@@ -12,8 +12,9 @@
  * A call writes the front of what it has to say into the room, as much as there is room for, and leaves what lies behind it
  * as it was; *length is that of the whole. So call once with a room of 0, or with a guess, and again if *length is more.
  *
- * A call takes up to 400 KiB of its thread's stack, whatever the texts are. Of several statuses that fit the first of this list
- * comes: 13, 2, 1, and then how the run ended; 12 may come in place of each but 13 and 2. A limit may be any number, 0 too: then a report or a trace has no record.
+ * A call takes up to 400 KiB of its thread's stack, whatever the texts are. If several statuses fit, the first of this list is answered:
+ * 13, 2, 1, and then how the run ended. 12 may come in place of each but 13 and 2. A limit may be any number; with 0 a report or a
+ * trace has no record.
  */
 #ifndef LATHE_H
 #define LATHE_H
@@ -94,6 +95,20 @@ uint8_t lathe_races(const uint8_t *left, size_t left_length, const uint8_t *righ
                     const uint8_t *settings, size_t settings_length,
                     uint8_t *room, size_t room_length, size_t *length);
 
+/* Where both paths may come too near each other in that run, as a text of zones asks for: the program's `zones` with that text as FILE.
+ * 0, or 1 and the line of the refusal, of the zones first; 13 also for zones of more than 65,536 bytes. */
+uint8_t lathe_zones(const uint8_t *left, size_t left_length, const uint8_t *right, size_t right_length,
+                    const uint8_t *settings, size_t settings_length, const uint8_t *zones, size_t zones_length, uint32_t limit,
+                    uint8_t *room, size_t room_length, size_t *length);
+
+/* A tape with its roughing cycles (G71, G70) written out as plain blocks, as the program's `expand`: 0, or 1 and the line of the refusal. */
+uint8_t lathe_expand(const uint8_t *tape, size_t tape_length, uint8_t *room, size_t room_length, size_t *length);
+
+/* A shop's tape in the language that the control runs, as the program's `plain`: 0, or 1 and the line of the refusal. What is not of
+ * that language is written out in it, and the rest stays as it is. The settings say how the tape is read; without any, pass none. */
+uint8_t lathe_plain(const uint8_t *tape, size_t tape_length, const uint8_t *settings, size_t settings_length,
+                    uint8_t *room, size_t room_length, size_t *length);
+
 /* What an event is. */
 enum lathe_kind {
     LATHE_PLACED = 0,   /* the turret stands at x, z before the first block of its path */
@@ -111,7 +126,11 @@ enum lathe_kind {
     LATHE_MET = 12,     /* the path came to its wait, at which the other one waits, and both go on; code */
     LATHE_ENDED = 13,   /* the path has ended */
     LATHE_RAISED = 14,  /* the path raised an alarm, which stops both; code, and value of a macro alarm */
-    LATHE_READ = 15     /* the block read the shared variable #amount, and is not done yet; it makes no record */
+    LATHE_READ = 15,    /* the block read the shared variable #amount, and is not done yet; it makes no record */
+    LATHE_SHIFT = 16,   /* x, z is the shift in force: work coordinates are machine coordinates less the shift. It comes once where a
+                         * path begins, and then before the moves of each block that changes it */
+    LATHE_HOME = 17,    /* x, z is the home position of the path (G28); once, where a path begins */
+    LATHE_WAY = 18      /* the block changes the way of the spindle (G96, G97) and says no speed; at_surface */
 };
 
 /* An event of a run. What its kind has no use for is 0. Points are in machine coordinates, in 0.001 mm; x is a diameter, i and k
@@ -132,11 +151,11 @@ struct lathe_event {
     int64_t value;          /* the feed or lead, or what a macro alarm was given, in millionths */
 };
 
-/* The events of the run whose paths get their turns in an order, a byte for each turn, 1 or 2: first where both turrets begin,
- * and then what each turn came to. A turn is a block, a read of a shared variable, or nothing: a path that waits or has ended
- * is passed over, and so are both behind an alarm or with as many records as the settings allow. The room and *length count
- * events. 0 both paths have ended, 3 an alarm, 10 the order is over, 14 as many records as the settings allow; without an
- * event 1, 2, 12 or 13.
+/* The events of the run whose paths get their turns in an order, a byte for each turn, 1 or 2: first of each path where its turret
+ * stands, its home position and the shift, and then what each turn came to. A turn is a block, a read of a shared variable, or
+ * nothing: a path that waits or has ended is passed over, and so are both after an alarm or with as many records as the settings
+ * allow. The room and *length count events. 0 both paths have ended, 3 an alarm, 10 the order is over, 14 as many records as the
+ * settings allow; without an event 1, 2, 12 or 13.
  *
  * A simulator whose own times decide the order calls again with a longer order. Where no shared variable is read, a path's
  * moves do not depend on the order. */

@@ -104,6 +104,25 @@ std::string word(Call &&call, std::uint16_t number) {
     return detail::told([&](auto *room, auto size, auto *length) { return lathe_races(LATHE_TEXTS_OF(of), room, size, length); });
 }
 
+/// Where both paths may come too near each other in a run of so many records at most, as a text of zones asks for.
+[[nodiscard]] inline answer zones(const texts &of, std::string_view zones, std::uint32_t limit) {
+    return detail::told([&](auto *room, auto size, auto *length) {
+        return lathe_zones(LATHE_TEXTS_OF(of), detail::bytes(zones), zones.size(), limit, room, size, length);
+    });
+}
+
+/// A tape with its roughing cycles written out as plain blocks.
+[[nodiscard]] inline answer expand(std::string_view tape) {
+    return detail::told([&](auto *room, auto size, auto *length) { return lathe_expand(detail::bytes(tape), tape.size(), room, size, length); });
+}
+
+/// A shop's tape in the language that the control runs. Without settings they are empty.
+[[nodiscard]] inline answer plain(std::string_view tape, std::string_view settings = {}) {
+    return detail::told([&](auto *room, auto size, auto *length) {
+        return lathe_plain(detail::bytes(tape), tape.size(), detail::bytes(settings), settings.size(), room, size, length);
+    });
+}
+
 /// The events of the run whose paths get their turns in an order, a byte for each turn, 1 or 2.
 [[nodiscard]] inline happened events(const texts &of, const std::vector<std::uint8_t> &order, std::size_t guess = 1024) {
     happened it{LATHE_DONE, std::vector<lathe_event>(guess)};

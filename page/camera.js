@@ -11,9 +11,22 @@ const Camera = (() => {
   const xOf = z => (z - camera.z) * camera.scale + sheet.width / 2;
   const yOf = r => (camera.r - r) * camera.scale + sheet.height / 2;
 
+  /** How the path of a segment lies in the cell, while the plane shows that: an origin, and which ways its X and Z go. */
+  const frameOf = segment => (Look.coordinates === "cell" ? Look.frames[segment.path] : null);
+
+  /** Which way X of a segment goes in the plane, 1 or -1, and which way its Z goes. */
+  const sideOf = segment => frameOf(segment)?.side ?? (segment.path === 1 ? 1 : -1);
+  const alongOf = segment => frameOf(segment)?.along ?? 1;
+
   /** Z and the radius of a machine point of a segment, as the plane has them: the radius with the side of its path. */
-  const placedZ = (segment, z) => (Look.coordinates === "work" ? z - segment.shiftZ : z);
-  const placedR = (segment, r) => (segment.path === 1 ? 1 : -1) * (Look.coordinates === "work" ? r - segment.shiftX / 2 : r);
+  function placedZ(segment, z) {
+    const frame = frameOf(segment);
+    return frame ? frame.along * z + frame.z : Look.coordinates === "work" ? z - segment.shiftZ : z;
+  }
+  function placedR(segment, r) {
+    const frame = frameOf(segment);
+    return frame ? frame.side * r + frame.x / 2 : sideOf(segment) * (Look.coordinates === "work" ? r - segment.shiftX / 2 : r);
+  }
 
   /** A machine point of a segment on the page. */
   const xIn = (segment, z) => xOf(placedZ(segment, z));
@@ -50,6 +63,15 @@ const Camera = (() => {
     const width = Math.max(50, sheet.width - left - right), height = Math.max(50, sheet.height - top - bottom);
     const scale = Math.min(width / Math.max(box.z1 - box.z0, 2), height / Math.max(box.r1 - box.r0, 2));
     camera = { scale, z: (box.z0 + box.z1 - (left - right) / scale) / 2, r: (box.r0 + box.r1 + (top - bottom) / scale) / 2 };
+  }
+
+  /** Brings a box, in mm of the plane, into the picture, if it is not wholly in it. */
+  function show(box) {
+    const at = { x0: xOf(box.z0), x1: xOf(box.z1), y0: yOf(box.r1), y1: yOf(box.r0) }, { left, right, top, bottom } = rim();
+    const isIn = at.x0 >= left && at.x1 <= sheet.width - right && at.y0 >= top && at.y1 <= sheet.height - bottom;
+    if (isIn) return;
+    lookAt(box);
+    fitted = null;
   }
 
   /** A box of another size: what was brought into the picture is so again. */
@@ -107,5 +129,5 @@ const Camera = (() => {
     return [start && place(start, "start"), home && place(home, "home")].filter(Boolean);
   }
 
-  return { sheet, xOf, yOf, xIn, yIn, onPage, pointOf, placeAt, placesOf, rim, fit, refit, drag, zoom, get now() { return camera; } };
+  return { sheet, xOf, yOf, xIn, yIn, sideOf, alongOf, placedZ, placedR, onPage, pointOf, placeAt, placesOf, rim, fit, show, refit, drag, zoom, get now() { return camera; } };
 })();

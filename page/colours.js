@@ -31,9 +31,14 @@ const Colours = (() => {
   /** Gives each tool that cuts its colour, in the order in which they come. */
   function giveTo(trace) {
     tools.clear();
-    for (const p of PATHS) for (const segment of trace.paths[p].segments) {
-      const key = keyOf(segment);
-      if (Reading.CUTS.has(segment.kind) && !tools.has(key)) tools.set(key, TOOLS[mode][tools.size] || further(tools.size));
+    for (const p of PATHS) {
+      let last = null;
+      for (const segment of trace.paths[p].segments) {
+        if (segment.tool === last || !Reading.CUTS.has(segment.kind)) continue;
+        last = segment.tool;
+        const key = keyOf(segment);
+        if (!tools.has(key)) tools.set(key, TOOLS[mode][tools.size] || further(tools.size));
+      }
     }
   }
 

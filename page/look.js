@@ -10,6 +10,10 @@ const Look = (() => {
     time: 0,
     stretch: null,      // the stretch that is marked, if one is
     race: null,         // the race that is marked, if one is
+    hit: null,          // the moves that come too near, if such a finding is marked
+    contours: [],       // what a tape says between G41 or G42 and G40, where what is drawn is the path of the nose: segments
+    frames: null,       // how each path lies in the cell, if a text of zones says it: then there are coordinates of the cell
+    layers: { under: [], over: [] },    // what else draws on the plane: under the tools, and with the moves
     focus: null,        // the segment under the hand
     ask,
     drawAsked,

@@ -102,7 +102,7 @@ const Moving = (() => {
 
   /** Marks a stretch, or none; `isSought` brings it into sight. A race stays marked only with its own. */
   function choose(stretch, isSought, race = null) {
-    Object.assign(Look, { stretch, race });
+    Object.assign(Look, { stretch, race, hit: null });
     if (stretch !== null && isSought) {
       const span = Times.spanOf(Look.trace, stretch);
       if (Look.time < span[0] || Look.time >= span[1]) Look.time = span[0];

@@ -3,8 +3,9 @@
 
 const Page = (() => {
   let pending = [];       // tapes that came before a trace
+  let isCellWished = false;             // whether the coordinates of the cell were shown when they went: they are shown again when they come
 
-  const rates = () => ({ rapid: 1000 * numberIn("rapid", 0.1, 20), change: numberIn("change", 0, 1) });
+  const rates = () => ({ rapid: 1000 * numberIn("rapid", 0.1, 20), change: numberIn("change", 0, 1), spindle: numberIn("spindle", 0, 0) });
 
   /** The number in a field; the usual one if there is none, or one below the least. */
   function numberIn(name, least, usual) {
@@ -14,10 +15,10 @@ const Page = (() => {
 
   // ---- texts come in ----
 
-  /** Takes texts with their names: a trace, and the tapes of its paths. */
+  /** Takes texts with their names: a trace, and the tapes of its paths. A tape whose trace this is names its path, and is not compared. */
   function take(texts) {
     const trace = texts.find(({ text }) => isTrace(text)), others = texts.filter(({ text }) => !isTrace(text));
-    const tapes = others.filter(({ text }) => Tapes.isTape(text)).map(({ name, text }) => ({ name, lines: Tapes.linesOf(text) }));
+    const tapes = others.filter(({ text }) => Tapes.isTape(text)).map(({ name, text, path }) => ({ name, path, lines: Tapes.linesOf(text) }));
     if (trace) load(trace.text, trace.name, tapes.length ? tapes : pending);
     else if (tapes.length) takeTapes(tapes);
     else if (others.length) load(others[0].text, others[0].name, []);
@@ -43,7 +44,7 @@ const Page = (() => {
     }
     pending = [];
     Moving.play(false);
-    Object.assign(Look, { trace, name, stretch: null, race: null, focus: null, time: 0 });
+    Object.assign(Look, { trace, name, stretch: null, race: null, hit: null, focus: null, time: 0 });
     show(tapes);
   }
 
@@ -175,7 +176,28 @@ const Page = (() => {
     for (const button of document.querySelectorAll("[data-show]")) mark(button, Look.shown[button.dataset.show]);
   }
 
-  onEach("coordinates", which => { Look.coordinates = which; Plane.fit(false); });
+  /** Shows the plane in these coordinates: work, machine or cell. */
+  function showIn(coordinates) {
+    Look.coordinates = coordinates;
+    Plane.fit(false);
+    markButtons();
+  }
+
+  /** Takes how each path lies in the cell, or that nothing says it. Then the coordinates of the cell can be chosen, or no longer. */
+  function takeFrames(frames) {
+    Look.frames = frames;
+    $("show-cell").hidden = !frames;
+    if (frames && isCellWished) showIn("cell");
+    if (frames || Look.coordinates !== "cell") return;
+    isCellWished = true;
+    if (Look.trace) showIn("work");
+    else Look.coordinates = "work";
+  }
+
+  onEach("coordinates", which => {
+    isCellWished = false;
+    showIn(which);
+  });
   onEach("fit", which => Plane.fit(which === "all"));
   onEach("show", what => { Look.shown[what] = !Look.shown[what]; Look.ask("plane", "over"); });
 
@@ -193,7 +215,7 @@ const Page = (() => {
     Look.ask("times", "over");
     tellState("drawn");
   }
-  for (const name of ["rapid", "change"]) $(name).addEventListener("change", timeAnew);
+  for (const name of ["rapid", "change", "spindle"]) $(name).addEventListener("change", timeAnew);
 
   $("play").addEventListener("click", () => Moving.play(!Moving.isPlaying));
   $("slider").addEventListener("input", () => Moving.goTo(Number($("slider").value) * Look.trace.total));
@@ -244,5 +266,5 @@ const Page = (() => {
   tellState("empty");
   takeOwn();
 
-  return { take, clear };
+  return { take, clear, showIn, takeFrames };
 })();

@@ -27,6 +27,12 @@ const Plane = (() => {
     Look.ask("plane", "over");
   }
 
+  /** Brings a box, in mm of the plane, into the picture. */
+  function show(box) {
+    Camera.show(box);
+    Look.ask("plane", "over");
+  }
+
   /** After another size: the picture is as it was brought in, and drawn anew. */
   function refit() {
     Camera.refit();
@@ -72,6 +78,7 @@ const Plane = (() => {
     for (const segment of shownSegments()) if (addSegment(lineOf(groups, segment), segment)) count++;
     for (const key of [...groups.keys()].sort()) strokeGroup(pen, groups.get(key), count > MANY);
     if (count <= MANY) drawArcEnds(pen);
+    for (const drawLayer of Look.layers.under) drawLayer(pen);
     PlaneGrid.drawPlaces(pen);
     still = { camera: Camera.now, copy: sheet.copy() };
   }
@@ -163,13 +170,13 @@ const Plane = (() => {
   /** Draws the segment under the hand, the moves under way and the tips of the tools. */
   function drawOver() {
     const pen = sheet.clean(sheet.over);
+    for (const drawLayer of Look.layers.over) drawLayer(pen);
     if (Look.focus) markSegment(pen, Look.focus, 5);
     for (const p of PATHS) {
-      const { segments } = Look.trace.paths[p], at = Times.lastBegun(segments, Look.time);
-      if (!Look.shown[p] || !segments.length) continue;
-      const segment = segments[Math.max(0, at)], part = at < 0 ? 0 : Times.partAt(segment, Look.time);
-      if (at >= 0 && isShown(segment) && part < 1) markSegment(pen, segment, 4);
-      drawTool(pen, segment, pointOf(segment, part));
+      const now = Look.shown[p] && Times.standing(Look.trace.paths[p], Look.time);
+      if (!now) continue;
+      if (now.isBegun && isShown(now.segment) && now.part < 1) markSegment(pen, now.segment, 4);
+      drawTool(pen, now.segment, pointOf(now.segment, now.part));
     }
   }
 
@@ -191,7 +198,7 @@ const Plane = (() => {
 
   /** The tip of a turret's tool. If it is outside, an arrow at the rim shows where. */
   function drawTool(pen, segment, { x, y }) {
-    const isFirst = segment.path === 1, name = `path ${segment.path} ${segment.tool}`.trim();
+    const isFirst = Camera.sideOf(segment) > 0, name = `path ${segment.path} ${segment.tool}`.trim();
     const { top, bottom } = Camera.rim();
     const at = { x: Math.min(sheet.width - 16, Math.max(16, x)), y: Math.min(sheet.height - bottom + 10, Math.max(top - 10, y)) };
     const isOutside = at.x !== x || at.y !== y;
@@ -239,11 +246,11 @@ const Plane = (() => {
   /** The square of the way from an arc to a point, in points; infinite if the point lies outside its angle. */
   function squareFromArc(segment, x, y) {
     const { arc } = segment, centre = onPage(segment, arc), full = 2 * Math.PI;
-    const dx = x - centre.x, dy = (centre.y - y) * (segment.path === 1 ? 1 : -1);
+    const dx = (x - centre.x) * Camera.alongOf(segment), dy = (centre.y - y) * Camera.sideOf(segment);
     const turned = (Math.atan2(dy, dx) - arc.from) * Math.sign(arc.sweep);
     if (((turned % full) + full) % full > Math.abs(arc.sweep)) return Infinity;
     return (Math.hypot(dx, dy) - arc.radius * Camera.now.scale) ** 2;
   }
 
-  return { sheet, fit, refit, drag, zoom, draw, drawMoved, drawOver, under };
+  return { sheet, fit, show, refit, drag, zoom, draw, drawMoved, drawOver, under, addSegment };
 })();

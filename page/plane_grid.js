@@ -29,7 +29,7 @@ const PlaneGrid = (() => {
       if (x > 60 && x < sheet.width - 16)
         plateText(pen, (Math.abs(z) < step / 1e6 ? "Z " : "") + Ticks.text(z, step), x, sheet.height - 8, "center", INK.soft);
     for (const { r, y } of rows)
-      if (y > 30 && y < sheet.height - 26) plateText(pen, letter + Ticks.text(Math.abs(2 * r), step), 6, y + 4, "left", INK.soft);
+      if (y > 30 && y < sheet.height - 26) plateText(pen, letter + Ticks.text(Look.coordinates === "cell" ? 2 * r : Math.abs(2 * r), step), 6, y + 4, "left", INK.soft);
   }
 
   /** The centre line, and which side is which path's. In machine coordinates each path has its own, so there is none. */
@@ -51,8 +51,9 @@ const PlaneGrid = (() => {
     pen.font = FONT.bold;
     pen.fillStyle = INK.soft;
     pen.textAlign = "left";
-    if (isBeside || axis > 40) pen.fillText("path 1: X up", x, isBeside ? axis - 8 : 20);
-    if (isBeside || axis < sheet.height - 50) pen.fillText("path 2: X down", x, isBeside ? axis + 17 : sheet.height - 32);
+    const text = path => `path ${path}: X ${Camera.sideOf({ path }) > 0 ? "up" : "down"}`;
+    if (isBeside || axis > 40) pen.fillText(text(1), x, isBeside ? axis - 8 : 20);
+    if (isBeside || axis < sheet.height - 50) pen.fillText(text(2), x, isBeside ? axis + 17 : sheet.height - 32);
   }
 
   /** Draws the starts, homes and zero points of the paths that are shown. */
@@ -61,7 +62,7 @@ const PlaneGrid = (() => {
     for (const p of PATHS) {
       if (!Look.shown[p]) continue;
       for (const place of Camera.placesOf(Look.trace.paths[p])) drawPlace(pen, place, p);
-      if (Look.coordinates === "machine") drawZero(pen, p);
+      if (Look.coordinates !== "work") drawZero(pen, p);
     }
     if (Look.coordinates === "work") drawTarget(pen, xOf(0), yOf(0));
   }

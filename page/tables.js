@@ -186,8 +186,9 @@ const Tables = (() => {
     const lines = [["rapid", { stroke: Colours.INK.rapid, "stroke-dasharray": "4 3" }], ["feed", { stroke: ink, "stroke-width": 1.7 }],
                    ["arc", { stroke: ink, "stroke-width": 2.6 }],
                    ["thread", { stroke: ink, "stroke-width": 3, "stroke-dasharray": "0.1 4.5", "stroke-linecap": "round" }]];
+    if (Look.contours.length) lines.push(["programmed contour", { stroke: ink, "stroke-width": 1, "stroke-dasharray": "3 3" }]);
     const tools = [...Colours.tools].slice(0, 16).map(([key, stroke]) => [`path ${key.replace(" T00", ", no tool")}`, { stroke, "stroke-width": 4 }]);
-    const shown = [...lines.filter(([kind]) => kinds.has(kind)), ...tools];
+    const shown = [...lines.filter(([kind]) => kinds.has(kind) || kind === "programmed contour"), ...tools];
     $("legend").replaceChildren(...shown.map(([text, style]) => element("span", "", sample(style), text)));
   }
 
@@ -222,7 +223,8 @@ const Tables = (() => {
   /** A place of the plane in words: Z and the diameter or X, in mm, as fine as the picture is, and whose side it is. */
   function placeText({ z, r }) {
     const digits = Math.max(0, Math.min(3, Math.ceil(Math.log10(Camera.now.scale)))), letter = Look.coordinates === "work" ? "\u2300" : "X";
-    return `Z ${Ticks.text(z, 10 ** -digits)}  ${letter} ${Ticks.text(Math.abs(2 * r), 10 ** -digits)}  (path ${r >= 0 ? 1 : 2})`;
+    const isCell = Look.coordinates === "cell", whose = isCell ? "cell" : `path ${r >= 0 ? 1 : 2}`;
+    return `Z ${Ticks.text(z, 10 ** -digits)}  ${letter} ${Ticks.text(isCell ? 2 * r : Math.abs(2 * r), 10 ** -digits)}  (${whose})`;
   }
 
   /** Tells the place of the mouse in the corner of its canvas. */

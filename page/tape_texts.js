@@ -7,17 +7,17 @@ const TapeTexts = (() => {
 
   /** The panel of a path that has no tape yet. */
   function newPanel(p) {
-    return { p, tape: null, waits: new Set(), visited: new Set(), now: null, focus: null, race: null,
+    return { p, tape: null, waits: new Set(), visited: new Set(), now: null, focus: null, race: null, hit: null,
              box: $(`tape-box-${p}`), scroll: $(`tape-${p}`), rows: $(`tape-rows-${p}`) };
   }
 
   // ---- which tape is which path's ----
 
-  /** Takes tapes, each with its name and lines; those that are there already stay if there is room. */
+  /** Takes tapes, each with its name and lines, and whose path it is (`path`) where that is known. */
   function take(tapes) {
     const { trace } = Look, all = tapes.slice(0, 2);
     if (all.length === 2) {
-      const isExchanged = Tapes.areExchanged(trace, all[0], all[1]);
+      const isExchanged = !all[0].path && Tapes.areExchanged(trace, all[0], all[1]);
       panels[1].tape = all[isExchanged ? 1 : 0];
       panels[2].tape = all[isExchanged ? 0 : 1];
     } else if (all.length === 1) panels[Tapes.isSecond(trace, all[0]) ? 2 : 1].tape = all[0];
@@ -38,6 +38,7 @@ const TapeTexts = (() => {
 
   /** What is wrong with the tape of a path, in a sentence; empty if the trace goes with it. */
   function problemOf(panel) {
+    if (panel.tape.path === panel.p) return "";
     const { wrong } = Tapes.compare(panel.tape.lines, Look.trace.paths[panel.p]);
     if (!wrong) return "";
     const what = wrong.due ? `line ${wrong.line} has no ${wrong.due}` : `there is no line ${wrong.line}`;
@@ -56,7 +57,7 @@ const TapeTexts = (() => {
   /** Shows the tape of a panel from its first line, or no panel if there is none. */
   function showPanel(panel) {
     panel.box.hidden = !panel.tape;
-    panel.now = panel.focus = panel.race = null;
+    panel.now = panel.focus = panel.race = panel.hit = null;
     if (!panel.tape) return;
     const { segments } = Look.trace.paths[panel.p];
     panel.waits = new Set(segments.filter(segment => segment.kind === "wait").map(segment => segment.line));
@@ -89,6 +90,7 @@ const TapeTexts = (() => {
     row.classList.toggle("now", line === panel.now);
     row.classList.toggle("focus", line === panel.focus);
     row.classList.toggle("race", line === panel.race);
+    row.classList.toggle("hit", line === panel.hit);
     if (line === panel.now) row.setAttribute("aria-current", "true");
     return row;
   }
@@ -100,7 +102,7 @@ const TapeTexts = (() => {
       if (!panel.tape) continue;
       const { segments } = Look.trace.paths[p], segment = segments[Times.lastBegun(segments, Look.time)];
       const now = segment ? segment.line : null, focus = Look.focus && Look.focus.path === p ? Look.focus.line : null;
-      const marks = { race: Look.race ? Look.race.lines[p] : null, focus, now };
+      const marks = { hit: Look.hit?.lines[p] ?? null, race: Look.race ? Look.race.lines[p] : null, focus, now };
       const changed = Object.keys(marks).filter(mark => marks[mark] !== panel[mark]);
       if (!changed.length) continue;
       const wanted = changed.map(mark => marks[mark]).find(line => line !== null);

@@ -8,8 +8,8 @@ const Times = (() => {
   const LEAST_IDLE = 0.05;              // seconds
 
   /**
-   * Times a trace, in seconds from its start. Rates: `rapid` in mm/min, `change` in seconds for each new tool station. A meeting is
-   * when the later path is there, and the earlier one waits until then. `unknown` counts the cuts that had no spindle speed.
+   * Times a trace, in seconds from its start. Rates: `rapid` in mm/min, `change` in seconds for each new tool station, `spindle` for another
+   * speed of the spindle that the tape says. A meeting is when the later path is there, and the earlier one waits until then. `unknown` counts the cuts that had no spindle speed.
    */
   function timeTrace(trace, rates) {
     const clocks = { 1: newClock(), 2: newClock() };
@@ -78,10 +78,13 @@ const Times = (() => {
   function takeSetting(setting, clock, rates) {
     if (setting.milliseconds !== undefined) return setting.milliseconds / 1000;
     if (setting.limit !== undefined) clock.limit = setting.limit || NO_LIMIT;
+    const begun = clock.way === "G96" ? clock.surface : clock.speed;
     if (setting.way !== undefined) clock.way = setting.way;
     if (setting.speed !== undefined) {
+      const isOther = setting.speed !== begun;
       if (setting.way === "G96") clock.surface = setting.speed;
       else clock.speed = setting.speed;
+      return isOther ? rates.spindle ?? 0 : 0;
     }
     if (setting.station === undefined || setting.station === "00" || setting.station === clock.station) return 0;
     clock.station = setting.station;
@@ -104,6 +107,12 @@ const Times = (() => {
   /** The place of the last segment of a list that has begun at a time; -1 if none has. */
   function lastBegun(segments, time) {
     return countUntil(segments, segment => segment.begin <= time) - 1;
+  }
+
+  /** What a path does at a time: a segment, its part that is gone, and whether it has begun; nothing if the path has no segment. */
+  function standing({ segments }, time) {
+    const at = lastBegun(segments, time), segment = segments[Math.max(0, at)];
+    return segment && { segment, part: at < 0 ? 0 : partAt(segment, time), isBegun: at >= 0 };
   }
 
   /** The stretch of a time: how many meetings were until then. */
@@ -149,5 +158,5 @@ const Times = (() => {
     return Math.min(1, Math.max(0, (time - segment.begin) / (segment.end - segment.begin)));
   }
 
-  return { timeTrace, lastBegun, stretchAt, spanOf, segmentsIn, idleOf, partAt, NO_SPEED, NO_LIMIT };
+  return { timeTrace, lastBegun, standing, stretchAt, spanOf, segmentsIn, idleOf, partAt, NO_SPEED, NO_LIMIT };
 })();

@@ -50,6 +50,9 @@ class Kind(IntEnum):
     ENDED = 13
     RAISED = 14
     READ = 15
+    SHIFT = 16
+    HOME = 17
+    WAY = 18
 
 
 class Answer(NamedTuple):
@@ -186,6 +189,18 @@ class Lathe:
     def races(self, left: Text, right: Text, settings: Text = b"") -> Answer:
         """The races of the pair for shared variables."""
         return self._text("lathe_races", (left, right, settings))
+
+    def zones(self, left: Text, right: Text, settings: Text, zones: Text, limit: int = _MOST) -> Answer:
+        """Where both paths may come too near each other in a run of so many records at most, as a text of zones asks for."""
+        return self._text("lathe_zones", (left, right, settings, zones), ctypes.c_uint32(limit))
+
+    def expand(self, tape: Text) -> Answer:
+        """A tape with its roughing cycles written out as plain blocks."""
+        return self._text("lathe_expand", (tape,))
+
+    def plain(self, tape: Text, settings: Text = b"") -> Answer:
+        """A shop's tape in the language that the control runs."""
+        return self._text("lathe_plain", (tape, settings))
 
     def events(self, left: Text, right: Text, settings: Text, order: bytes, room: int = 1024) -> Events:
         """The events of the run whose paths get their turns in an order, a byte for each turn, 1 or 2."""

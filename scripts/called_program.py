@@ -31,6 +31,11 @@ class Program:
                              stderr=subprocess.DEVNULL, timeout=60)
         return Answer(ran.returncode, ran.stdout)
 
+    def put(self, name, text):
+        """Puts a file beside the texts."""
+        with open(os.path.join(self.rooms.name, name), "wb") as file:
+            file.write(text)
+
     def forget(self):
         """Takes the journal of a run away."""
         journal = os.path.join(self.rooms.name, "twin.journal")

@@ -12,7 +12,7 @@ from library_texts import EXAMPLES, read
 
 LIMIT = 50000                   # records of a picture, as page/judge/worker.js has it
 PARTS = ("waits", "verdict", "trace")
-WORKERS = len(PARTS)            # one for each part
+WORKERS = 2                     # one for the waits, one for the other parts
 PATIENCE = 300                  # seconds for one question, on a machine that does much else
 MODULE = re.compile(r'(<script type="text/plain" id="module">)([^<]*)(</script>)')
 
@@ -80,7 +80,7 @@ class Page:
     def type(self, *texts):
         """Types where the cursor is, and waits for all answers."""
         for text in texts:
-            self.browser.call("Input.insertText", text=text)
+            self.browser.type(text)
         return self.wait()
 
     def select(self, place, line, begin, end):
@@ -108,9 +108,7 @@ class Page:
     def choose(self, name, files):
         """Chooses files by the button of an element."""
         self.run("document.documentElement.dataset.judged = 'asked'")
-        root = self.browser.call("DOM.getDocument")["root"]["nodeId"]
-        node = self.browser.call("DOM.querySelector", nodeId=root, selector="#" + name)["nodeId"]
-        self.browser.call("DOM.setFileInputFiles", nodeId=node, files=files)
+        self.browser.choose(name, files)
         return self.wait()
 
 
@@ -283,7 +281,9 @@ def rows_of_returns(row, page):
     row.equal("it stays what it is when another line is changed", page.run("[...Judge.texts[0].bytes()]"), list(alone.replace(b"M30", b" M30")))
     row.equal("and is refused still", line_of(seen["answers"]["verdict"]), due)
     page.run("""(field => { const data = new DataTransfer(); data.setData("text/plain", "\\r(A)\\r\\n");
-        field.dispatchEvent(new ClipboardEvent("paste", { clipboardData: data, bubbles: true, cancelable: true })); })(Judge.texts[0].field)""")
+        const event = new ClipboardEvent("paste", { bubbles: true, cancelable: true });
+        Object.defineProperty(event, "clipboardData", { value: data });         // (not each browser takes it as a word of the event)
+        field.dispatchEvent(event); })(Judge.texts[0].field)""")
     page.wait()
     row("one that is pasted stays too", b" \r(A)\nM30" in bytes(page.run("[...Judge.texts[0].bytes()]")), page.run("Judge.texts[0].field.value"))
     windows = b"%\r\nO1\r\nM30\r\n%\r\n"
@@ -294,15 +294,20 @@ def rows_of_returns(row, page):
 
 
 def saved(page, room, name, script):
-    """The bytes of the file that a script of the page saves under a name; None if none comes."""
+    """The bytes of the file that a script of the page, or a user, saves under a name; None if none comes."""
     folder = os.path.join(room, "saved")
     shutil.rmtree(folder, ignore_errors=True)
     os.mkdir(folder)
     page.browser.save_to(folder)
-    page.run(script + "; 0")
+    if callable(script):
+        script()
+    else:
+        page.run(script + "; 0")
+    whole = os.path.join(folder, name)
     for _ in range(400):
-        if os.path.exists(os.path.join(folder, name)):
-            with open(os.path.join(folder, name), "rb") as file:
+        # (a browser may make the file first, and fill it when all has come)
+        if os.path.exists(whole) and os.path.getsize(whole) and os.listdir(folder) == [name]:
+            with open(whole, "rb") as file:
                 return file.read()
         time.sleep(0.025)
     return None
@@ -403,7 +408,7 @@ CONTRAST = """(() => {
 
 
 def rows_of_habits(row, page, room):
-    """Search, go to line, the place of the mouse, dark mode and paper."""
+    """Search, go to line, the keys of editors, and the place of the mouse."""
     upper, lower, cell = zip(GOOD, pair(*GOOD))
     browser, run = page.browser, page.run
     page.clear()
@@ -429,14 +434,29 @@ def rows_of_habits(row, page, room):
     row.equal("the text is as it was", run("[...Judge.texts[0].bytes()]"), list(upper[1]))
     browser.key(" ")
     page.wait()
-    row("Ctrl+S saves", saved(page, room, "upper.nc", "dispatchEvent(new KeyboardEvent('keydown', { key: 's', ctrlKey: true, bubbles: true }))"))
+    row.equal("Ctrl+S saves the text that has the cursor", saved(page, room, "upper.nc", lambda: browser.key("s", control=True)), bytes(run("[...Judge.texts[0].bytes()]")))
+    browser.key("Tab")
+    row("Tab leaves the text, and writes none", run("document.activeElement !== Judge.texts[0].field && !Judge.texts[0].field.value.includes('\\t')"))
     page.drop("document.body", [upper])
     run("$('page').scrollIntoView()")
     browser.settle()
     browser.hover(*run("(box => [box.left + Math.round(Camera.xOf(-20)), box.top + Math.round(Camera.yOf(15))])($('plane').getBoundingClientRect())"))
     found = re.fullmatch(r"Z \u2212(\d+\.\d+)  \u2300 (\d+\.\d+)  \(path 1\)", run("$('pointer').textContent"))
     row("the place of the mouse is told", found and abs(float(found[1]) - 20) < 0.5 and abs(float(found[2]) - 30) < 0.5, run("$('pointer').textContent"))
+    browser.hover(*run("(box => [box.left + TimeLine.xOf(1), box.top + TimeLine.LANES[1] + 20])($('times').getBoundingClientRect())"))
+    found = re.fullmatch(r"(\d+\.\d\d) s, a guess", run("$('pointer-time').textContent"))
+    row("and the time", found and abs(float(found[1]) - 1) < 0.1, run("$('pointer-time').textContent"))
     run("scrollTo(0, 0)")
+
+
+def rows_of_looks(row, page, room):
+    """Dark mode, by which all letters can be read, paper, and the key that opens files."""
+    browser, run = page.browser, page.run
+    page.clear()
+    page.give(*pair(*GOOD))
+    run("$('file').addEventListener('click', event => { event.preventDefault(); window.wereAskedFor = true; }, { once: true }); Judge.texts[0].field.focus()")
+    browser.key("o", control=True)
+    row("Ctrl+O asks for files", run("window.wereAskedFor === true"))
     for mode in ("dark", "light"):
         browser.call("Emulation.setEmulatedMedia", features=[{"name": "prefers-color-scheme", "value": mode}])
         browser.settle()
@@ -500,6 +520,291 @@ def rows_of_refusals(row, page, room):
     row("and a good pair has no note", page.run("Judge.texts.every(text => text.notes.size === 0)"))
 
 
+SHOP = b"%\nO1\n(ROUGH)\nG00 X40. Z2.\nG01 Z-20. F0.2 M41 M08\nG00 X50.\nM101\nM30\n%\n", b"%\nO2\nG00 X30. Z5.\nM101\nM30\n%\n", b""
+FILLED = """(async () => { %s; while (!$("judge-written").dataset.filled) await new Promise(done => setTimeout(done, 5));
+  return [$("judge-written-left").value, $("judge-written-right").value, $("judge-written-said").textContent]; })()"""
+
+
+def rows_of_written(row, page, room):
+    """Tapes that are refused as they are, and accepted as `plain` writes them out: the page says so, draws that, and shows both."""
+    page.clear()
+    seen = page.give(*SHOP)
+    row.equal("a shop's tape is refused as it is", seen["answers"]["verdict"]["status"], 1)
+    row.equal("written out it is drawn", (seen["state"], seen["isStale"], page.run("document.body.classList.contains('plained')")), ("drawn", False, True))
+    row.has("and the page says of what the picture is", page.run("$('judge-plain').textContent"), "Written out by plain these tapes are accepted")
+    row.has("with the end of the run", page.run("$('judge-plain').textContent"), "end done")
+    report = (saved(page, room, "twin_lathe report.txt", "$('save-report').click()") or b"").decode()
+    for part in ("\n== written out by plain\n", "\n== run, the paths take turns\npath 1 moves ", "\nend done\n"):
+        row.has(f"the report has it: {part.strip()!r}", report, part)
+    row("the tape beside the picture is the written one", page.run("Look.trace && TapeTexts && document.body.textContent.includes('M41 (5)')"))
+    left, right, said = page.run(FILLED % "document.querySelector('#judge-plain button').click()")
+    rows = list(zip(left.split("\n"), right.split("\n")))
+    row.equal("both stand line beside line", len(left.split("\n")), len(right.split("\n")))
+    row("a line that stays stands beside itself", (" 4 G00 X40. Z2.", "  G00 X40. Z2.") in rows, rows)
+    row("one that gives way stands beside what was written", any(one.startswith(" 5 G01") and two.startswith("> ") and two.endswith("(5)") for one, two in rows), rows)
+    row.has("how many lines gave way is told", said, "Path 1, plain: ")
+    due = (page.run("[...Judge.plained.tapes[0].bytes]"))
+    row.equal("what was written is saved", list(saved(page, room, "path1.plain.nc", "$('judge-written-save').click()") or b""), due)
+    page.do("$('judge-written-take').click(); await new Promise(done => setTimeout(done, 100))")
+    seen = page.wait()
+    row.equal("and taken in the place of the tape", (page.run("[...Judge.texts[0].bytes()]"), page.run("Judge.texts[0].isChanged")), (due, True))
+    row.equal("then the pair is accepted", line_of(seen["answers"]["verdict"]), ACCEPTED)
+    row("and nothing is said of plain", page.run("$('judge-plain-box').hidden && !document.body.classList.contains('plained')"))
+    page.clear()
+    seen = page.give(*pair(*DEADLOCK))
+    row("of tapes in the language plain writes nothing", "nothing to write out" in page.run("$('judge-plain').textContent") and seen["isStale"])
+    page.give(read("roughing.nc"), SHOP[1], b"")
+    left, right, said = page.run(FILLED % "$('judge-write').click()")
+    page.run("delete $('judge-written').dataset.filled; $('judge-written-name').value = 'expand'; $('judge-written-name').dispatchEvent(new Event('change'))")
+    left, right, said = page.run(FILLED % "0")
+    row("expand writes roughing cycles out", "> G00 X48.000" in right and "G71 U2. R0.5" in left, (right[:300], said))
+    row("line beside line", any(one.endswith("G71 U2. R0.5") and two == "> G00 X48.000" for one, two in zip(left.split("\n"), right.split("\n"))), right[:300])
+    row.equal("in two columns of one height", len(left.split("\n")), len(right.split("\n")))
+    page.run("$('judge-written').close()")
+    seen = page.give(*SHOP[:2], b"thread passes 2\n")
+    row.equal("settings that plain alone takes are refused", line_of(seen["answers"]["verdict"]), (1, "refused 90 BadSetting line 1\n"))
+    row.has("and left out for the run of what was written", page.run("$('judge-plain').textContent"), "The lines of the settings that plain alone takes are left out")
+    row.equal("which is drawn", (seen["state"], seen["isStale"]), ("drawn", False))
+    seen = page.give(*pair("nipple_upper.nc", "nipple_lower.nc"), b"")
+    row.equal("a pair with G71 over an arc, G70, G75, G76 and G83 is written out, and drawn", (seen["state"], seen["isStale"]), ("drawn", False))
+    row("with all its moves", all(int(many) > 30 for many in page.run("document.documentElement.dataset.moves").split()), page.run("document.documentElement.dataset.moves"))
+    page.give(b"%\nO1\nG12.1\nM30\n%\n", SHOP[1], b"")
+    row.has("why plain can't write a tape out is told", page.run("$('judge-plain').textContent"), "plain can't write out path 1: refused 96 NotPlain line 3 NoForm")
+    left, right, said = page.run(FILLED % "delete $('judge-written').dataset.filled; $('judge-write').click()")
+    row.has("with what to do", said, "docs/ERRORS.md")
+    page.run("$('judge-written').close()")
+    page.clear()
+
+
+# A tape with G42, the settings that name its nose, with the centre as the programmed point, and what plain writes of it.
+NOSE = (b"%\nO1\nT0101\nG00 X50. Z5.\nG42 G00 X40. Z0\nG01 Z-20. F0.2\nX60.\nG40 X64. Z-10.\nM30\n%\n", SHOP[1].replace(b"M101\n", b""), b"nose 1 1 R1. 0\n")
+NOSE_WRITTEN = (b"%\nO1\nT0101\nG00 X50. Z5.\nG00 X42.000 Z0.000 (5)\nG01 X42.000 Z-19.000 F0.2 (6)\nG01 X60.000 Z-19.000 (7)\nG01 X64.000 Z-10.000 (8)\nM30\n%\n",
+                NOSE[1], b"")
+# The part of a line along Z that is drawn darkly, at a diameter: 1 if it is whole, less if it is dashed.
+DARK = """((x, z0, z1) => {
+  const { sheet } = Plane, { ratio } = sheet, [from, to] = [z0, z1].map(z => Math.round(Camera.xOf(z) * ratio)), y = Math.round(Camera.yOf(x / 2) * ratio);
+  const { data } = sheet.under.getContext("2d").getImageData(from, y - 1, to - from, 3), wide = to - from;
+  const isDark = at => data[at + 3] > 80 && data[at] + data[at + 1] + data[at + 2] < 400;
+  const count = [...Array(wide).keys()].filter(k => [0, 1, 2].some(row => isDark(4 * (row * wide + k)))).length;
+  return count / wide;
+})(%s)"""
+SHOW_PLAIN = """(trace => { const bytes = %s.map(text => new TextEncoder().encode(text));
+  Judge.showPlain({ tapes: bytes.slice(0, 2).map(bytes => ({ kind: "said", status: 0, bytes, text: "" })), settings: bytes[2], isLess: true, trace: { kind: "said", status: 0, text: trace } });
+  Look.drawAsked(); })(%r)"""
+
+
+def show_plain(page, given, wrote):
+    """Shows what plain writes of tapes, as if this module had written it."""
+    trace = page.give(*wrote)["answers"]["trace"]["text"]
+    page.give(*given)
+    page.run(SHOW_PLAIN % ([text.decode() for text in wrote], trace))
+
+
+def rows_of_contour(row, page, room):
+    """Of a tape with G41 or G42 that plain wrote out the picture has both the path of the nose and the contour as it is programmed."""
+    run, shape = page.run, "Look.contours.map(({ x1, z1, arc }) => [x1, z1, arc ? [arc.radius, 2 * arc.r, arc.z].map(value => Math.round(value * 1000) / 1000) : 0])"
+    page.clear()
+    page.give(*NOSE)
+    if run("/^trace /.test(Judge.plained?.trace?.text ?? '')"):
+        row.equal("plain writes the nose out", run("textOf(Judge.plained.tapes[0].bytes)"), NOSE_WRITTEN[0].decode())
+    else:
+        print("judge rows: this module writes no nose out; the page is shown what another one wrote")
+        show_plain(page, NOSE, NOSE_WRITTEN)
+    row.equal("the contour is that of the tape", run(shape), [[40, 0, 0], [40, -20, 0], [60, -20, 0], [64, -10, 0]])
+    run("Plane.fit(false); Look.drawAsked()")
+    path, between, contour = (run(DARK % f"{x}, -15, -5") for x in (42, 41, 40))
+    row("the path of the nose is drawn whole", path > 0.97, path)
+    row("the contour dashed, a radius beside it", 0.3 < contour < 0.85, contour)
+    row("and nothing between them", between == 0, between)
+    row.has("the legend names it", run("$('legend').textContent"), "programmed contour")
+    given = b"%\nO1\nG00 X30. Z5.\nG42\nG01 X20. Z0 F0.2\nG01 W-10.\nG02 X30. Z-15. R5.\nG03 U10. W-5. I0 K-5.\nG40\nG00 X60.\nG00 Z50.\nM30\n%\n"
+    show_plain(page, (given, NOSE[1], b""), (given.replace(b"G42\n", b"").replace(b"G40\n", b"").replace(b"F0.2\n", b"F0.2 (5)\n"), NOSE[1], b""))
+    row.equal("with arcs, and lengths from where it stands", run(shape),
+              [[20, 0, 0], [20, -10, 0], [30, -15, [5, 30, -10]], [40, -20, [5, 30, -20]], [60, -20, 0]])
+    page.give(*pair(*GOOD))
+    row("another pair has none", run("Look.contours.length === 0 && !$('legend').textContent.includes('contour')"))
+    page.clear()
+
+
+def rows_of_states(row, page, room):
+    """The state of the machine after each meeting is that of the program, at the records of that meeting."""
+    seen = page.give(*pair(*GOOD))
+    row.equal("the meetings of the run are counted", page.run("[$('judge-state-of').textContent, $('judge-state-meeting').max]"), ["of 2", "2"])
+    found = {}
+    for meeting in (0, 1, 2):
+        found[meeting] = page.run(f"""(async () => {{ $('judge-state-meeting').value = {meeting}; await State.show();
+            return document.querySelector('#judge-state pre').textContent; }})()""", seconds=PATIENCE)
+        row.has(f"the state after meeting {meeting} is told", found[meeting], "path 1")
+    row.equal("each has another state", len(set(found.values())), 3)
+    row.has("before the first turn nothing is recorded", found[0], "records 0")
+    met = [line for line in seen["answers"]["trace"]["text"].splitlines() if line.startswith("met ")]
+    row.equal("as many as the trace has", len(met), 2)
+    page.give(*pair(*DEADLOCK))
+    row("a refused pair has no state", page.run("$('judge-state-box').hidden"))
+
+
+ZONED = """(async () => { %s; $("judge-zones").replaceChildren(); $("judge-zones-judge").click();
+  while (!$("judge-zones").children.length) await new Promise(done => setTimeout(done, 5)); return $("judge-zones").innerText; })()"""
+
+
+def rows_of_zones(row, page, room):
+    """Zones by areas and by moves of the run that is drawn, a bad text, and a reload that keeps it."""
+    page.clear()
+    page.give(*pair("flange_upper.nc", "flange_lower.nc", "flange_cell.txt"))
+    row("a run can be asked for its zones", not page.run("$('judge-zones-box').hidden"))
+    said = page.run(ZONED % "$('judge-zones-box').open = true; $('judge-zones-text').value = 'mirror 2\\ngap X20. Z5.\\n'")
+    for part in ("end hit 1", "0 X-4.000 X320.000 Z108.100 Z260.000 X-320.000 X-320.000 Z260.000 Z260.000 clear", "1 X12.000 X126.000 Z66.000 Z188.000"):
+        row.has(f"they are those of docs/COMMANDS.md: {part}", said, part)
+    page.run("[...document.querySelectorAll('#judge-zones .place')].find(row => row.textContent.startsWith('1 ')).click()")
+    row.equal("a segment leads to its stretch", page.run("Look.stretch"), 1)
+    said = page.run(ZONED % "$('judge-zones-text').value = 'by moves\\ntool 1 0 X-60. X60. Z0. Z150.\\n'")
+    row.has("by moves too", said, "end ")
+    said = page.run(ZONED % "$('judge-zones-text').value = 'gap\\n'")
+    row.has("a bad text is refused by its line", said, "refused 92")
+    page.run("$('judge-zones-text').value = 'gap X1. Z1.'; $('judge-zones-text').dispatchEvent(new Event('input'))")
+    page.give(*pair(*DEADLOCK))
+    row("a refused pair has none", page.run("$('judge-zones-box').hidden"))
+    page.do("Judge.ask()")
+    page.run("new Promise(done => setTimeout(done, 700))")
+    page.browser.reload()
+    page.wait()
+    row.equal("the text is there after a reload", page.run("$('judge-zones-text').value"), "gap X1. Z1.")
+    page.run("Zones.set('')")
+    page.clear()
+
+
+# Two turrets over one spindle: path 2 sees X from the other side, and its tool comes past the axis.
+BODIES = (b"%\nO1\nT0303\nG00 X100. Z50.\nM101\nG00 X40. Z50.\nG04 P2000\nG00 X200.\nM102\nM30\n%\n",
+          b"%\nO2\nT0505\nG00 X200. Z150.\nM101\nG00 X60. Z150.\nG00 X-30. Z60.\nM102\nG00 X60. Z-20.\nM30\n%\n",
+          b"place 1 X100. Z50.\nplace 2 X200. Z150.\n")
+BODIES_CELL = ("by moves\nmirror 2\nframe 2 X0 Z30.\ngap X2. Z2.\ntool 1 3 X-10. X30. Z0. Z60.\ntool 2 5 X-20. X40. Z-5. Z25.\n"
+               "fixed 2 X-120. X-80. Z0. Z20.\n")
+# Of boxes of the cell, (least X, greatest X, least Z, greatest Z), whether each edge is where it is due: something is drawn before it, and
+# nothing behind it. The tools and their names are not drawn then.
+EDGES = """(boxes => {
+  const { sheet } = Plane, { ratio } = sheet, pen = sheet.clean(sheet.over);
+  for (const draw of Look.layers.over) draw(pen);
+  const alpha = (x, z) => pen.getImageData(Math.round(Camera.xOf(z) * ratio), Math.round(Camera.yOf(x / 2) * ratio), 1, 1).data[3];
+  return boxes.map(([x0, x1, z0, z1]) => {
+    const [x, z] = [(x0 + x1) / 2, (z0 + z1) / 2], out = 4 / Camera.now.scale;
+    return [[x0, -2 * out, z, 0], [x1, 2 * out, z, 0], [x, 0, z0, -out], [x, 0, z1, out]].map(([a, da, b, db]) => alpha(a - da, b - db) > 0 && alpha(a + da, b + db) === 0);
+  });
+})(%s)"""
+RED = """(boxes => {
+  const { sheet } = Plane, { ratio } = sheet, pen = sheet.clean(sheet.over);
+  for (const draw of Look.layers.over) draw(pen);
+  return boxes.map(([x0, x1, z0, z1]) => {
+    const [x, z] = [(x0 + x1) / 2, (z0 + z1) / 2], [r, g, b] = pen.getImageData(Math.round(Camera.xOf(z) * ratio), Math.round(Camera.yOf(x / 2) * ratio), 1, 1).data;
+    return r > 150 && g < 90 && b < 90;
+  });
+})(%s)"""
+CLICKED = "[...document.querySelectorAll('#judge-zones .place')].find(row => row.textContent.startsWith('%s ')).click()"
+
+
+def rows_of_bodies(row, page, room):
+    """By moves, the bodies of the tools stand where the text of zones has them; a finding leads to its moves, and marks them."""
+    run = page.run
+    page.clear()
+    page.give(*BODIES)
+    row("without a text of zones there is no cell to look at", run("$('show-cell').hidden"))
+    said = run(ZONED % f"$('judge-zones-box').open = true; $('judge-zones-text').value = {BODIES_CELL!r}")
+    for line in ("1 hit path 1 line 6 path 2 line 7 tool 3 tool 5", "2 hit path 2 line 9 fixed 1 tool 5", "end hit 2"):
+        row.has(f"it is found: {line}", said, line)
+    run("document.querySelector('[data-coordinates=cell]').click(); Moving.goTo(0); Plane.show({ z0: 0, z1: 210, r0: -120, r1: 120 }); Look.drawAsked()")
+    due = [[90, 130, 50, 110], [-240, -180, 175, 205], [-120, -80, 0, 20]]
+    row.equal("both bodies and the fixed box stand where the text has them", run(EDGES % due), [[True] * 4] * 3)
+    row.equal("none is red before a finding is clicked", run(RED % due), [False] * 3)
+    run("Moving.goTo(Look.trace.meetings[1].time - 1e-6); Look.drawAsked()")
+    due = [[190, 230, 50, 110], [-10, 50, 85, 115], [-120, -80, 0, 20]]
+    row.equal("they move with the time", run(EDGES % due), [[True] * 4] * 3)
+    for coordinates, due in (("machine", [190, 230, 50, 110]), ("work", [190, 230, 50, 110])):
+        run(f"document.querySelector('[data-coordinates={coordinates}]').click(); Plane.fit(true); Look.drawAsked()")
+        row.equal(f"in {coordinates} coordinates they stand at their tools", run(EDGES % [due]), [[True] * 4])
+    run(CLICKED % 1 + "; Look.drawAsked()")
+    row.equal("a finding leads to its moves, in the cell", run("[Look.coordinates, Look.stretch, PATHS.map(p => Look.hit.lines[p])]"), ["cell", 1, [6, 7]])
+    row.equal("its lines are marked in both tapes", page.wait()["marked"], [[6], [7], []])
+    row.equal("and beside the picture", run("[...document.querySelectorAll('.row.hit')].map(row => Number(row.dataset.line))"), [6, 7])
+    near = run("""PATHS.map(p => { const { segment, part } = Times.standing(Look.trace.paths[p], Look.time), { z, r } = Shapes.onSegment(segment, part);
+        return p === 1 ? [2 * r - 10, 2 * r + 30, z, z + 60] : [-2 * r - 40, -2 * r + 20, z + 25, z + 55]; })""")
+    row("both bodies are red, at a moment at which they are near", run(RED % near) == [True, True]
+        and max(near[0][0], near[1][0]) - min(near[0][1], near[1][1]) <= 2.001 and max(near[0][2], near[1][2]) - min(near[0][3], near[1][3]) <= 2.001, near)
+    run(CLICKED % 2 + "; Look.drawAsked()")
+    row.equal("a finding at a fixed box too", run("[Look.stretch, PATHS.map(p => Look.hit.lines[p] ?? 0)]"), [2, [0, 9]])
+    row.equal("its line is marked", page.wait()["marked"], [[], [9], []])
+    row.equal("and the box is red", run(RED % [[-120, -80, 0, 20]]), [True])
+    run("Judge.texts[0].field.focus()")
+    stops = []
+    for shift in (False, False, False, True):
+        page.browser.key("F8", shift=shift)
+        stops.append(run("[Look.stretch, Judge.texts.findIndex(text => text.field === document.activeElement)]"))
+    row.equal("F8 goes from one finding to the next, and back with Shift", stops, [[1, 0], [2, 1], [1, 0], [2, 1]])
+    run("$('plane').focus()")
+    page.browser.key("Escape")
+    row("Escape takes the marks off", run("Look.hit === null"))
+    page.select(0, 2, 0, 0)
+    run("document.querySelector('[data-coordinates=cell]').click()")
+    page.type(" ")
+    row("after a change the bodies are there again, in the cell", run("""new Promise(done => { let turns = 400;
+        const look = () => (Bodies.cell || !turns--) ? done(Look.coordinates === "cell") : setTimeout(look, 10); look(); })"""))
+    run(ZONED % "$('judge-zones-text').value = 'gap X1. Z1.'")
+    row.equal("by areas there are no bodies", run("[$('show-cell').hidden, Look.coordinates, Bodies.cell]"), [True, "work", None])
+    run("Zones.set('')")
+    page.clear()
+
+
+def rows_of_readings(row, page, room):
+    """What was asked of the module once is not asked again until a text changes."""
+    run = page.run
+
+    def calls(script):
+        """The exports that are called while a script of the page asks and is answered."""
+        run(f"(async () => {{ Judge.calls.length = 0; await {script}; }})()", seconds=PATIENCE)
+        page.wait()
+        return sorted(run("Judge.calls"))
+
+    page.give(*pair(*DEADLOCK))
+    seen = page.give(*pair(*GOOD))
+    row.equal("a question reads the pair once for its waits, and once for all else", sorted(run("Judge.calls")), ["lathe_trace", "lathe_waits"])
+    again = page.do("Judge.ask()")
+    row.equal("the same question again reads nothing", (run("Judge.calls"), again["answers"]), ([], seen["answers"]))
+    row.equal("other programs in the control are a question about the waits alone", calls("($('judge-outside').value = '9000-9999', Judge.ask())"), ["lathe_waits"])
+    run("$('judge-outside').value = ''")
+    state, zones = "($('judge-state-meeting').value = %d, State.show())", "Judge.zonesOf(new TextEncoder().encode('gap X%d. Z1.\\n'))"
+    for name, first, due, other, others in (
+            ("a state", state % 1, ["lathe_events", "lathe_state"], state % 2, ["lathe_state"]),
+            ("a report", "Judge.report()", ["lathe_run"], "Judge.report()", []),
+            ("zones", zones % 1, ["lathe_zones"], zones % 2, ["lathe_zones"]),
+            ("a tape that is written out", "Judge.written('plain', 0)", ["lathe_plain"], "Judge.written('expand', 0)", ["lathe_expand"])):
+        row.equal(f"{name} is asked for once", [calls(first), calls(first)], [due, []])
+        row.equal(f"{name}: another one by itself", [calls(other), calls(first)], [others, []])
+    for part, click in (("a meeting", "document.querySelector('#judge-waits .place').click()"), ("a line of the picture", "Moving.toLine(1, 8)"),
+                        ("a stretch", "Moving.choose(1, true)")):
+        row.equal(f"a click on {part} reads nothing", calls(click), [])
+    page.select(0, 2, 0, 0)
+    run("Judge.calls.length = 0; Judge.texts[0].field.focus()")
+    page.type(" ")
+    row.equal("a change is read anew", sorted(run("Judge.calls")), ["lathe_trace", "lathe_waits"])
+    page.give(*SHOP)
+    row.equal("the tapes that plain wrote out are not written out again", calls("Judge.written('plain', 1)"), [])
+    page.give(*LONG)
+    row.equal("of a long pair the verdict is asked for by itself", sorted(run("Judge.calls")), ["lathe_trace", "lathe_verify", "lathe_waits"])
+    page.clear()
+
+
+def rows_of_rates(row, page, room):
+    """Rates that the settings tell as comments make the times, and are no longer called a guess."""
+    tapes = b"%\nO1\nG00 X0 Z1000.\nT0202\nM30\n%\n", b"%\nO2\nM30\n%\n"
+    page.give(*tapes, b"")
+    row.equal("without rates it is a guess", page.run("[$('rates-of').textContent, Look.trace.total, $('rapid').disabled]"), ["guess with rapid", 4, False])
+    seen = page.give(*tapes, b"(rate 60000)\n(change 2.5)\n(spindle 1)\n")
+    row.equal("the settings with rates are accepted", line_of(seen["answers"]["verdict"]), ACCEPTED)
+    row.equal("and their rates count", page.run("[$('rates-of').textContent, Look.trace.total, $('rapid').value, $('rapid').disabled]"), ["rates of the settings: rapid", 3.5, "60", True])
+    page.give(b"%\nO1\nG97 S800 M03\nG97 S900\nG97 S900\nM30\n%\n", tapes[1], b"(spindle 1.5)\n")
+    row.equal("another speed takes its time", page.run("Look.trace.total"), 3)
+    page.give(*tapes, b"")
+    row.equal("without them the guess is back", page.run("[$('rates-of').textContent, Look.trace.total]"), ["guess with rapid", 4])
+
+
 def rows_of_typing(row, page, room):
     """A change is judged again, and its line is marked; the page stays alive meanwhile."""
     left = read("upper.nc").decode().splitlines()
@@ -516,7 +821,7 @@ def rows_of_typing(row, page, room):
     row.equal("typed back it is accepted again", (line_of(seen["answers"]["verdict"]), seen["marked"], seen["isStale"]), (ACCEPTED, [[], [], []], False))
     page.give(*LONG)
     # (a machine that does other work may leave one try few turns)
-    turns = max(page.give(*LONG)["turns"] for _ in range(3))
+    turns = max(page.give(*(tape.replace(b"S800", b"S%d" % (801 + attempt)) for tape in LONG))["turns"] for attempt in range(3))
     row("the page stays alive while a long pair is judged", turns >= 5, turns)
     seen = page.do(f"Judge.ask(); Judge.texts[0].set('', new TextEncoder().encode({read(DEADLOCK[0]).decode()!r})); "
                    f"Judge.texts[1].set('', new TextEncoder().encode({read(DEADLOCK[1]).decode()!r})); Judge.ask()")
@@ -538,14 +843,18 @@ def rows_of_faults(row, page, room):
     """The module breaks off, its stack ends, its memory is refused, or it can't be had at all."""
     due = {part: line_of(answer) for part, answer in page.give(*pair(*GOOD))["answers"].items()}
     own = page.path
-    page.open(spoilt(own, room, lambda module: wasm_binary.with_trap(module, "lathe_trace")))
+    page.open(spoilt(own, room, lambda module: wasm_binary.with_trap(module, "lathe_waits")))
     seen = page.give(*pair(*GOOD))
-    row.equal("a call that breaks off gives no answer", (seen["answers"]["trace"]["kind"], seen["workers"]), ("broken off", WORKERS + 1))
-    row.has("the page says so", seen["said"]["run"], "broke off")
-    row.has("and that the judge was made anew", seen["said"]["run"], "was made anew")
-    row.equal("the other answers are right", {part: line_of(seen["answers"][part]) for part in PARTS[:2]}, {part: due[part] for part in PARTS[:2]})
+    row.equal("a call that breaks off gives no answer", (seen["answers"]["waits"]["kind"], seen["workers"]), ("broken off", WORKERS + 1))
+    row.has("the page says so", seen["said"]["waits"], "broke off")
+    row.has("and that the judge was made anew", seen["said"]["waits"], "was made anew")
+    row.equal("the other answers are right", {part: line_of(seen["answers"][part]) for part in PARTS[1:]}, {part: due[part] for part in PARTS[1:]})
     seen = page.give(*pair(*DEADLOCK))
     row.equal("the next pair is judged as ever", line_of(seen["answers"]["verdict"]), MISMATCH)
+    page.open(spoilt(own, room, lambda module: wasm_binary.with_trap(module, "lathe_trace")))
+    seen = page.give(*pair(*GOOD))
+    row.equal("without the call of the pair there is no verdict", (seen["answers"]["verdict"]["kind"], list(seen["answers"])), ("broken off", list(PARTS[:2])))
+    row.has("and the page says so", seen["said"]["verdict"], "broke off")
     for what, spoil, kind, words, sizes in (
             ("a stack", wasm_binary.with_short_stack, "broken off", "broke off", [1 << k for k in range(8, 21)]),
             ("a memory", wasm_binary.with_little_memory, "no memory", "no memory for this", [0, *(1 << k for k in range(13))])):
@@ -611,8 +920,8 @@ BOUNDS = {"verdict": 500, "trace": 1500}        # milliseconds until the verdict
 def rows_of_length(row, page, room):
     """20,000 blocks a tape, soon: the best of some tries. On a machine that does more than it has processors all takes as much longer."""
     best, busy = {}, min(4, max(1, os.getloadavg()[0] / os.cpu_count()))
-    for _ in range(8):
-        seen = page.give(*LONG)
+    for attempt in range(8):
+        seen = page.give(*(tape.replace(b"S800", b"S%d" % (801 + attempt)) for tape in LONG))        # (other texts: nothing of them is kept)
         best = {part: min(seen["times"][part], best.get(part, 1e9)) for part in PARTS}
         if all(best[part] < BOUNDS[part] for part in BOUNDS):
             break
@@ -632,4 +941,5 @@ def rows_of_length(row, page, room):
 
 
 GROUPS = {group.__name__.removeprefix("rows_of_"): group for group in (
-    rows_of_answers, rows_of_hands, rows_of_files, rows_of_saving, rows_of_habits, rows_of_refusals, rows_of_typing, rows_of_faults, rows_of_requests, rows_of_length)}
+    rows_of_answers, rows_of_hands, rows_of_files, rows_of_saving, rows_of_habits, rows_of_looks, rows_of_refusals, rows_of_written,
+    rows_of_contour, rows_of_states, rows_of_zones, rows_of_bodies, rows_of_readings, rows_of_rates, rows_of_typing, rows_of_faults, rows_of_requests, rows_of_length)}

@@ -10,8 +10,8 @@ import sys
 import time
 
 from called_program import FILES, Program
-from judge_cases import DEADLOCK, GOOD, GROUPS, LIMIT, LONG, MODULE, Page, line_of, long_tape
-from library_texts import EXAMPLES, changed_triples, triples
+from judge_cases import ACCEPTED, GROUPS, LIMIT, LONG, MODULE, Page, line_of, long_tape
+from library_texts import changed_triples, triples
 from page_browser import Browser, Hung
 import page_firefox
 from page_drive import Refused, edit_of
@@ -77,55 +77,37 @@ def compare(row, page):
 # ---- another browser ----
 
 # Whether a browser knows the kind of module: an empty one with a memory of 64 bits.
-KNOWS_MODULE = "return WebAssembly.validate(new Uint8Array([0, 97, 115, 109, 1, 0, 0, 0, 5, 3, 1, 4, 1]))"
-JUDGED = "return document.documentElement.dataset.judged === 'done'"
-MARKED = """return ["left", "right", "cell"].map(name => [...document.querySelectorAll(`#judge-${name}-numbers .marked`)].map(row => Number(row.textContent)))"""
+KNOWS_MODULE = "WebAssembly.validate(new Uint8Array([0, 97, 115, 109, 1, 0, 0, 0, 5, 3, 1, 4, 1]))"
+# The groups that only Chromium can be driven for, and those that take long and say the same in each browser.
+CHROMIUM_ALONE = "looks", "requests", "typing", "length"
 
 
-def text_in(firefox, name):
-    return firefox.run(f"return document.getElementById('{name}').textContent")
+class RowsIn(Rows):
+    """The rows of another browser, under its name."""
 
+    def __init__(self, row, browser):
+        self.row, self.browser = row, browser
 
-def choose_in(firefox, names):
-    """Chooses files of a folder as a user does, and waits until they are judged."""
-    firefox.run("document.documentElement.dataset.judged = 'asked'")
-    firefox.type("#file", "\n".join(os.path.realpath(name) for name in names))
-    return firefox.until(JUDGED)
+    def __call__(self, name, is_so, seen=None):
+        self.row(f"{self.browser}: {name}", is_so, seen)
 
 
 def rows_of_firefox(row, path):
-    """The page by itself in Firefox: it judges, marks and draws, takes what is typed, and keeps it over a reload."""
-    firefox, examples = page_firefox.Firefox(), os.path.realpath(EXAMPLES)
+    """The page by itself in Firefox: the same groups of rows, and a long pair."""
+    firefox = page_firefox.Firefox(os.path.join(WORK, "saved"))
     try:
         if not firefox.run(KNOWS_MODULE):
             return print("judge rows: this Firefox knows no WebAssembly of 64 bits: its rows are left out")
-        firefox.open(path)
-        row("Firefox: three files are judged", choose_in(firefox, [os.path.join(examples, name) for name in reversed(GOOD)]), text_in(firefox, "judge-verdict"))
-        row.has("Firefox: the pair is accepted", text_in(firefox, "judge-verdict"), "accepted")
-        row.has("Firefox: which tape is whose is told", text_in(firefox, "judge-came-said"), "Path 1: upper.nc, Path 2: lower.nc")
-        row.equal("Firefox: its picture is drawn", firefox.run("return [document.documentElement.dataset.state, document.documentElement.dataset.moves]"), ["drawn", "19 11"])
-        choose_in(firefox, [os.path.join(examples, name) for name in DEADLOCK])
-        row.has("Firefox: a deadlock is refused", text_in(firefox, "judge-verdict"), "refused 72 WaitMismatch path 1 line 3 path 2 line 3 after 0")
-        row.equal("Firefox: and its lines are marked", firefox.run(MARKED), [[3], [3], []])
-        firefox.type("#judge-cell", "wait 102 199\n")
-        row("Firefox: what is typed is judged", firefox.until("return document.getElementById('judge-verdict').textContent.includes('accepted')", 30), text_in(firefox, "judge-verdict"))
-        row("Firefox: and kept", firefox.until("return document.getElementById('judge-kept').textContent.startsWith('Kept')", 30))
-        firefox.reload()
-        row("Firefox: after a reload it is there and judged", firefox.until("return document.getElementById('judge-verdict').textContent.includes('accepted')", 30)
-            and "wait 102 199" in firefox.run("return document.getElementById('judge-cell').value"), text_in(firefox, "judge-came-said"))
-        row("Firefox: 20,000 blocks a tape are judged and drawn", rows_of_long_tapes(firefox), text_in(firefox, "judge-verdict"))
+        page, rows = Page(firefox), RowsIn(row, "Firefox")
+        page.open(path)
+        for name, group in GROUPS.items():
+            if name not in CHROMIUM_ALONE:
+                group(rows, page, WORK)
+        seen = page.give(*LONG)
+        rows.equal("20,000 blocks a tape are judged and drawn", (line_of(seen["answers"].get("verdict")), seen["state"], seen["isStale"]), (ACCEPTED, "drawn", False))
+        rows.equal("no exception", firefox.problems, [])
     finally:
         firefox.close()
-
-
-def rows_of_long_tapes(firefox):
-    names = [os.path.join(WORK, name) for name in ("long_upper.nc", "long_lower.nc")]
-    for name, tape in zip(names, LONG):
-        with open(name, "wb") as file:
-            file.write(tape)
-    firefox.run("document.getElementById('judge-clear').click(); document.querySelector('#judge-unsaved button[value=go]').click()")
-    firefox.until("return document.getElementById('judge-left').value === ''")
-    return choose_in(firefox, names) and "accepted" in text_in(firefox, "judge-verdict") and firefox.run("return document.documentElement.dataset.state") == "drawn"
 
 
 # ---- wrong pages ----
@@ -186,7 +168,7 @@ def refuse_wrong_pages(row, module):
 
 def main():
     row, began = Rows(), time.monotonic()
-    row("the page has less than a million bytes", os.path.getsize(PAGE) < 1000000, os.path.getsize(PAGE))
+    row("the page has no more bytes than build_page allows", os.path.getsize(PAGE) <= page_module.MOST_BYTES, os.path.getsize(PAGE))
     # The page by itself, in a folder without any other file.
     alone = os.path.join(WORK, "alone", "twin_lathe.html")
     os.mkdir(os.path.dirname(alone))

@@ -69,6 +69,71 @@ static void try_rooms(const char *name, plain_call call, const struct text *text
     free(whole);
 }
 
+/* The calls of one tape, over texts as the others take them: the tape is the first, the settings the last. */
+static uint8_t expand_of(const uint8_t *tape, size_t tape_length, const uint8_t *right, size_t right_length,
+    const uint8_t *settings, size_t settings_length, uint8_t *room, size_t size, size_t *length) {
+    (void)right, (void)right_length, (void)settings, (void)settings_length;
+    return lathe_expand(tape, tape_length, room, size, length);
+}
+
+static uint8_t plain_of(const uint8_t *tape, size_t tape_length, const uint8_t *right, size_t right_length,
+    const uint8_t *settings, size_t settings_length, uint8_t *room, size_t size, size_t *length) {
+    (void)right, (void)right_length;
+    return lathe_plain(tape, tape_length, settings, settings_length, room, size, length);
+}
+
+/* The zones of a pair, of a text that asks for them. */
+static uint8_t zones_of(const uint8_t *left, size_t left_length, const uint8_t *right, size_t right_length,
+    const uint8_t *settings, size_t settings_length, uint8_t *room, size_t size, size_t *length) {
+    static const char zones[] = "gap X5. Z5.\n";
+    return lathe_zones(left, left_length, right, right_length, settings, settings_length, (const uint8_t *)zones, sizeof zones - 1, 900, room, size, length);
+}
+
+/* What may be wrong with a text of zones. */
+static void try_zones(const struct text *texts) {
+    struct text none[3] = {{NULL, 0}, {NULL, 0}, {NULL, 0}};
+    size_t length = 7;
+    uint8_t room[64], *long_zones = flush(65537);
+    memset(long_zones, '%', 65537);
+    check("zones: none", lathe_zones(TEXTS(texts), NULL, 0, 900, NULL, 0, &length) == LATHE_DONE && length > 0);
+    check("zones: a limit of 0", lathe_zones(TEXTS(texts), NULL, 0, 0, room, sizeof room, &length) == LATHE_DONE && length > 0);
+    check("zones: no texts", lathe_zones(TEXTS(none), NULL, 0, 900, NULL, 0, &length) == LATHE_REFUSED && length > 0);
+    check("zones: bad ones", lathe_zones(TEXTS(texts), (const uint8_t *)"gap", 3, 900, room, sizeof room, &length) == LATHE_REFUSED && length > 0);
+    check("zones: bad ones come first", lathe_zones(TEXTS(none), (const uint8_t *)"gap", 3, 9, room, sizeof room, &length) == LATHE_REFUSED &&
+        memcmp(room, "refused 92", 10) == 0);
+    check("zones: a length of SIZE_MAX", lathe_zones(TEXTS(texts), NULL, SIZE_MAX, 900, NULL, 0, &length) == LATHE_TOO_LONG && length == 0);
+    check("zones: one byte too long", lathe_zones(TEXTS(texts), long_zones, 65537, 900, NULL, 0, &length) == LATHE_TOO_LONG && length == 0);
+    check("zones: as long as may be", lathe_zones(TEXTS(texts), long_zones + 1, 65536, 900, NULL, 0, &length) == LATHE_REFUSED && length > 0);
+    try_rooms("a room for zones", zones_of, texts);
+}
+
+/* What may be wrong with one tape and its settings. */
+static void try_tape(const struct text *texts) {
+    size_t length = 7, most = 4194304;
+    uint8_t room[64], *long_tape = flush(most + 1), *long_settings = flush(65537);
+    memset(long_tape, '%', most + 1);
+    memset(long_settings, '%', 65537);
+    check("expand: no tape", lathe_expand(NULL, 0, room, sizeof room, &length) == LATHE_REFUSED && length > 0);
+    check("expand: no tape and no room", lathe_expand(NULL, 0, NULL, 0, &length) == LATHE_REFUSED && length > 0);
+    check("expand: a length of SIZE_MAX", lathe_expand(texts[0].at, SIZE_MAX, room, sizeof room, &length) == LATHE_TOO_LONG && length == 0);
+    check("expand: one byte too long", lathe_expand(long_tape, most + 1, room, sizeof room, &length) == LATHE_TOO_LONG && length == 0);
+    check("expand: as long as may be", lathe_expand(long_tape + 1, most, room, sizeof room, &length) == LATHE_REFUSED && length > 0);
+    check("plain: no texts", lathe_plain(NULL, 0, NULL, 0, room, sizeof room, &length) == LATHE_REFUSED && length > 0);
+    check("plain: no texts and no room", lathe_plain(NULL, 0, NULL, 0, NULL, 0, &length) == LATHE_REFUSED && length > 0);
+    check("plain: no settings", lathe_plain(texts[0].at, texts[0].length, NULL, 0, NULL, 0, &length) == LATHE_DONE && length > 0);
+    check("plain: a length of SIZE_MAX", lathe_plain(texts[0].at, SIZE_MAX, NULL, 0, NULL, 0, &length) == LATHE_TOO_LONG && length == 0);
+    check("plain: settings of SIZE_MAX", lathe_plain(texts[0].at, texts[0].length, NULL, SIZE_MAX, NULL, 0, &length) == LATHE_TOO_LONG);
+    check("plain: one byte too long", lathe_plain(long_tape, most + 1, NULL, 0, NULL, 0, &length) == LATHE_TOO_LONG && length == 0);
+    check("plain: as long as may be", lathe_plain(long_tape + 1, most, NULL, 0, room, sizeof room, &length) == LATHE_REFUSED && length > 0);
+    check("plain: settings too long", lathe_plain(texts[0].at, texts[0].length, long_settings, 65537, NULL, 0, &length) == LATHE_TOO_LONG);
+    check("plain: settings as long as may be",
+        lathe_plain(texts[0].at, texts[0].length, long_settings + 1, 65536, room, sizeof room, &length) == LATHE_REFUSED && length > 0);
+    check("plain: one text twice",
+        lathe_plain(texts[0].at, texts[0].length, texts[0].at, texts[0].length, room, sizeof room, &length) == LATHE_REFUSED);
+    try_rooms("a room for expand", expand_of, texts);
+    try_rooms("a room for plain", plain_of, texts);
+}
+
 static void try_words(void) {
     uint8_t room[512];
     check("the version of the library is that of the header", lathe_version() == LATHE_VERSION);
@@ -158,12 +223,15 @@ static void try_many(const struct text *texts, long count) {
     memset(order, 1, sizeof order);
     for (long k = 0; k < count; k++) {
         if (k == count / 10) before = in_use();
-        switch (k % 6) {
+        switch (k % 9) {
             case 0: lathe_verify(TEXTS(texts), room, sizeof room, &length); break;
             case 1: lathe_judge(TEXTS(texts), &refusal); break;
             case 2: lathe_run(TEXTS(texts), 40, room, sizeof room, &length); break;
             case 3: lathe_waits(TEXTS(texts), 1, 0, room, sizeof room, &length); break;
             case 4: lathe_races(TEXTS(texts), room, sizeof room, &length); break;
+            case 5: lathe_expand(texts[0].at, texts[0].length, room, sizeof room, &length); break;
+            case 7: zones_of(TEXTS(texts), room, sizeof room, &length); break;
+            case 6: lathe_plain(texts[0].at, texts[0].length, texts[2].at, texts[2].length, room, sizeof room, &length); break;
             default: lathe_events(TEXTS(texts), order, sizeof order, (struct lathe_event *)(void *)room, 900, &length);
         }
     }
@@ -178,6 +246,8 @@ int main(int count, char **words) {
     else {
         try_words();
         try_misuse(texts);
+        try_tape(texts);
+        try_zones(texts);
         try_rooms("a room for the verdict", lathe_verify, texts);
         try_rooms("a room for the races", lathe_races, texts);
         shared = texts;

@@ -40,6 +40,11 @@ int main(int count, char **words) {
     same("state", lathe::state(of, 20), [&](auto... it) { return lathe_state(GIVEN, 20, it...); });
     same("waits", lathe::waits(of), [&](auto... it) { return lathe_waits(GIVEN, 1, 0, it...); });
     same("races", lathe::races(of), [&](auto... it) { return lathe_races(GIVEN, it...); });
+    const std::string gap = "gap X5. Z5.\n";
+    same("zones", lathe::zones(of, gap, 300), [&](auto... it) { return lathe_zones(GIVEN, at(gap), gap.size(), 300, it...); });
+    same("expand", lathe::expand(left), [&](auto... it) { return lathe_expand(at(left), left.size(), it...); });
+    same("plain", lathe::plain(left, cell), [&](auto... it) { return lathe_plain(at(left), left.size(), at(cell), cell.size(), it...); });
+    check("plain: no settings", lathe::plain(left).status == LATHE_DONE && lathe::plain("").status == LATHE_REFUSED);
     const std::vector<std::uint8_t> order(4000, 1);
     const auto one = lathe::events(of, order, 1), many = lathe::events(of, order, 9999);
     check("events", one.status == many.status && one.events.size() == many.events.size() && one.events.size() > 2);

@@ -3,8 +3,8 @@
 mod exports;
 
 use exports::{
-    lathe_events, lathe_judge, lathe_meaning, lathe_name, lathe_races, lathe_run, lathe_state, lathe_trace, lathe_verify, lathe_version,
-    lathe_waits,
+    lathe_events, lathe_expand, lathe_judge, lathe_meaning, lathe_name, lathe_plain, lathe_races, lathe_run, lathe_state, lathe_trace, lathe_verify,
+    lathe_version, lathe_waits, lathe_zones,
 };
 use lathe_calls::{PairTexts, weigh};
 
@@ -18,11 +18,14 @@ fn main(rt: HostRuntime) {
     let _len = lathe_name(72, &mut room);
     let _len = lathe_meaning(72, &mut room);
     let _status = lathe_judge(alloc, text, text, b"", &mut refusal);
+    let _status = lathe_expand(alloc, text, &mut room, &mut len);
+    let _status = lathe_plain(alloc, text, b"", &mut room, &mut len);
     let _status = lathe_races(alloc, text, text, b"", &mut room, &mut len);
     let _status = lathe_verify(alloc, text, text, b"", &mut room, &mut len);
     let _status = lathe_run(alloc, text, text, b"", 100, &mut room, &mut len);
     let _status = lathe_trace(alloc, text, text, b"", 100, &mut room, &mut len);
     let _status = lathe_state(alloc, text, text, b"", 100, &mut room, &mut len);
+    let _status = lathe_zones(alloc, text, text, b"", b"", 100, &mut room, &mut len);
     let _status = lathe_waits(alloc, text, text, b"", 1, 0, &mut room, &mut len);
     let _status = lathe_events(alloc, text, text, b"", b"12", &mut [], &mut len);
 }

@@ -62,7 +62,10 @@ static uint8_t ask(int what, size_t *length) {
         case 3: return lathe_state(TEXTS, 1000, room, ROOM, length);
         case 4: return lathe_waits(TEXTS, 1, 0, room, ROOM, length);
         case 5: return lathe_races(TEXTS, room, ROOM, length);
-        case 6:
+        case 6: return lathe_expand(texts[0], lengths[0], room, ROOM, length);
+        case 7: return lathe_plain(texts[0], lengths[0], texts[2], lengths[2], room, ROOM, length);
+        case 8: return lathe_zones(TEXTS, (const uint8_t *)"gap X5. Z5.\n", 12, 1000, room, ROOM, length);
+        case 9:
             status = lathe_judge(TEXTS, &refusal);
             *length = 0;
             /* (without memory the refusal is all 0, and the room is as it was) */
@@ -113,7 +116,7 @@ int main(int count, char **words) {
         fclose(file);
     }
     for (int k = 0; k < TURNS; k++) order[k] = (uint8_t)(1 + k % 2);
-    for (int what = 0; what < 8; what++)
+    for (int what = 0; what < 11; what++)
         if (!refuse_each(what)) return 1;
     return 0;
 }

@@ -51,6 +51,10 @@ check("text and bytes", lathe.trace(*(it.decode() for it in texts), limit=90) ==
 check("no settings", lathe.verify(*texts[:2]).status in (Status.DONE, Status.REFUSED))
 for name in ("run", "state", "waits", "races"):
     check(name, getattr(lathe, name)(*texts).status == Status.DONE)
+check("zones", lathe.zones(*texts, "gap X5. Z5.\n").status == Status.DONE and lathe.zones(*texts, "gap").status == Status.REFUSED)
+check("expand", lathe.expand(texts[0]).status == Status.DONE and lathe.expand("").status == Status.REFUSED)
+check("plain", lathe.plain(texts[0], texts[2]) == lathe.plain(texts[0].decode(), texts[2].decode()) and lathe.plain("").status == Status.REFUSED)
+check("plain: no settings", lathe.plain(texts[0]).status == Status.DONE)
 found = lathe.events(*texts, bytes([1, 2]) * 4000, room=1)
 check("events", found.status == Status.DONE and found.list[0].kind == Kind.PLACED and "path=1" in repr(found.list[0]))
 check("an order with a 3", lathe.events(*texts, b"\3") == (Status.ORDER, []))

@@ -81,9 +81,20 @@ def compare_run(given):
     if report.status != 0 or not reads_none(texts):
         return []
     due = PROGRAM_OF(texts, "run", *FILES)
-    state = PROGRAM_OF.again("state")
+    state, zones = PROGRAM_OF.again("state"), list(zone_rows(name, texts))
     PROGRAM_OF.forget()
-    return [(f"{name}: run", report, due), (f"{name}: state", LATHE.state(*texts, limit=20000), state)]
+    return [(f"{name}: run", report, due), (f"{name}: state", LATHE.state(*texts, limit=20000), state), *zones]
+
+
+# Texts of zones: by areas and by moves, and one that is refused.
+ZONES = (b"", b"gap X5. Z5.\n", b"frame 2 X0 Z500.\nmirror 2\ngap X10. Z10.\n", b"by moves\ngap X5. Z5.\n", b"gap\n")
+
+
+def zone_rows(name, texts):
+    """The zones of the run that the program has in its journal, or the refusal of their text."""
+    for number, zones in enumerate(ZONES):
+        PROGRAM_OF.put("zones", zones)
+        yield f"{name}: zones {number}", LATHE.zones(*texts, zones, limit=20000), PROGRAM_OF.again("zones", "zones")
 
 
 NAMES = {Kind.RAPID: "rapid", Kind.FEED: "feed", Kind.THREAD: "thread"}
@@ -109,18 +120,34 @@ def moves_of(report):
     return found
 
 
+def changes_of(trace, path):
+    """The shifts, the way home and the ways of the spindle of a path in a trace."""
+    return [it.split(" ", 2)[2] for it in trace.decode().split("\n") if re.match(rf"{path} \d+ (shift|home|spindle) ", it)]
+
+
+def shown_change(event):
+    """A shift, a way home or a way of the spindle as a trace has it."""
+    if event.kind in (Kind.SHIFT, Kind.HOME):
+        return f"{Kind(event.kind).name.lower()} X{event.x / 1000:.3f} Z{event.z / 1000:.3f}"
+    return ("spindle G96" if event.at_surface else "spindle G97") if event.kind == Kind.WAY else None
+
+
 def check_events(name, texts):
     """The moves of each path are those of the report, in whatever order the turns come."""
     report = LATHE.run(*texts, limit=2000)
     if report.status != 0 or not reads_none(texts):
         return
     due = moves_of(report.text)
+    trace = LATHE.trace(*texts, limit=2000).text
+    changes = {path: changes_of(trace, path) for path in (1, 2)}
     compared["lists of events"] += 1
     compared["moves"] += sum(map(len, due.values()))
     for order in (bytes([1, 2]), bytes([2, 1]), bytes([1, 1, 1, 2]), bytes([2] * 40 + [1] * 7)):
         status, events = LATHE.events(*texts, order * 4000)
         found = {path: [shown(it) for it in events if it.path == path and shown(it)] for path in (1, 2)}
-        counts = [it.records for it in events if it.kind not in (Kind.PLACED, Kind.READ)]
+        found_changes = {path: [shown_change(it) for it in events if it.path == path and shown_change(it)] for path in (1, 2)}
+        check(f"{name}: shifts and ways {order[:4]}", found_changes == changes, f"{found_changes} {changes}")
+        counts = [it.records for it in events if it.kind != Kind.READ and it.records > 0]
         is_counted = sorted(set(counts)) == list(range(1, len(set(counts)) + 1)) and counts == sorted(counts)
         check(f"{name}: events {order[:4]}", status == 0 and found == due and is_counted, f"status {status}")
 
@@ -144,6 +171,34 @@ def check_rooms(name, texts):
     check(f"{name}: no room and no settings", (status, length.value) == (due.status, len(due.text)), f"status {status}")
 
 
+# Tapes of which every form that `plain` writes out has a line, and some that it refuses.
+SHOPS = (b"%\nO1\nG50 S2000\nT0101\nG00 X40. Z2.\nG01 U-2. W-3. F.2\nZ-20.,R2.\nX50.,C1.\nG04 U1.5\nM03 M08\nM30\n%\n",
+         b"%\nO1 (drill)\nT0202\nG00 X0 Z3.\nG74 R1.\nG74 Z-30. Q5000 F.1\nG00 Z50.\nM30\n%\n",
+         b"%\nO1\nG00 X30. Z2.\nG76 P010060 Q100 R50\nG76 X26. Z-20. P1000 Q300 F1.5\nM30\n%\n",
+         b"%\nO1\nG00 X#1\nU1.\nM30\n%\n", b"%\nO1\nG31 Z-1.\nM30\n%\n", b"%\nO1\nG00 X1..\nM30\n%\n", b"O1", b"")
+
+
+def check_tapes():
+    """Written-out tapes, and refused ones, as the program writes them."""
+    given = [(name, read(name)) for name in sorted(os.listdir(EXAMPLES)) if name.endswith(".nc")]
+    given += [(f"shop tape {number}", tape) for number, tape in enumerate(SHOPS)]
+    statuses = {"expand": set(), "plain": set()}
+    for name, tape in given:
+        due = PROGRAM_OF((tape, b"", b""), "expand", "left")
+        statuses["expand"].add(due.status)
+        check(f"expand {name}", LATHE.expand(tape) == due, f"{due.status} is due")
+        for settings in (b"", read("cell.txt"), b"system B\n", b"no settings\n"):
+            due = PROGRAM_OF((tape, b"", settings), "plain", "left", "cell")
+            statuses["plain"].add(due.status)
+            check(f"plain {name} {settings[:9]}", LATHE.plain(tape, settings) == due, f"{due.status} is due")
+        check(f"plain {name} without settings", LATHE.plain(tape) == PROGRAM_OF.again("plain", "left"))
+    for what, found in statuses.items():
+        check(f"{what} takes a tape and refuses one", found == {0, 1}, f"statuses {found}")
+    check("expand: a tape that is too long", LATHE.expand(b"%" * 4194305) == (13, b""))
+    check("plain: a tape that is too long", LATHE.plain(b"%" * 4194305) == (13, b""))
+    check("plain: settings that are too long", LATHE.plain(b"%", b"%" * 65537) == (13, b""))
+
+
 def check_refusals():
     texts = read("upper.nc"), read("lower.nc"), read("cell.txt")
     for place, size in ((0, 4194305), (1, 4194305), (2, 65537)):
@@ -155,7 +210,7 @@ def check_refusals():
     check("an order with a 3", LATHE.events(*texts, b"\1\2\3") == (2, []))
     check("an order with a 0", LATHE.events(*texts, b"\0") == (2, []))
     check("refused texts have no event", LATHE.events(read("deadlock_upper.nc"), read("deadlock_lower.nc"), b"", b"\1") == (1, []))
-    check("no turn", [it.kind for it in LATHE.events(*texts, b"").list] == [0, 0])
+    check("no turn", [it.kind for it in LATHE.events(*texts, b"").list] == [Kind.PLACED, Kind.HOME, Kind.SHIFT] * 2)
 
 
 def check_threads(given):
@@ -212,6 +267,7 @@ def main():
     for what, count in compared.items():
         check(f"{what} are compared", count > 0, "there are none")
     check_refusals()
+    check_tapes()
     check_threads(given)
     check_simulators()
     ran = subprocess.run([os.path.join(WORK, "memory"), "upper.nc", "lower.nc", "cell.txt"], cwd=EXAMPLES, stdout=subprocess.PIPE)

@@ -5,8 +5,10 @@
 
 errors=$root/docs/ERRORS.md
 
-# The names among the words: LEFT, RIGHT and, if they are given, SETTINGS, or a tape by itself; and the option that a second look must have too.
+# The names among the words: LEFT, RIGHT and, if they are given, SETTINGS, or a file by itself; `all` has the file of zones before those of a pair
+# too; and the option that a second look must have too.
 names=()
+all=()
 again=()
 settings=/dev/null
 take_names() {
@@ -21,13 +23,15 @@ take_names() {
         esac
         shift
     done
+    all=(${names[@]+"${names[@]}"})
+    if [[ $command == zones ]] && ((${#all[@]} > 1)); then names=("${all[@]:1}"); fi
     if ((${#names[@]} > 2)); then settings=${names[2]}; fi
 }
 
 # Whether all files can be read a second time. (a tape that is a pipe can't)
 are_readable_again() {
     local file
-    for file in ${names[@]+"${names[@]}"}; do [[ -f $file || $file == /dev/null ]] || return; done
+    for file in ${all[@]+"${all[@]}"}; do [[ -f $file || $file == /dev/null ]] || return; done
 }
 
 # The file of path $1.
@@ -67,15 +71,21 @@ waits_of_settings() { awk '$1 == "wait" && NF == 3 { first = $2; last = $3; line
 # The system of the codes by the settings.
 system_of_settings() { awk '$1 == "codes" && NF == 2 { last = $2 } END { print last == "B" ? "B" : "A" }' "$settings"; }
 
-# The paragraph `$2: ..` of the section of ERRORS.md whose heading is $1, as one line. After `waits` it does not advise to call `waits`.
+# The paragraph `$2: ..` of the section of ERRORS.md whose heading is $1, as one line. After `waits` what to do is the paragraph `Waits: ..`, if
+# there is one; and nothing advises to call `waits`.
 entry() {
+    local own
+    if [[ $command == waits && $2 == Do ]]; then
+        own=$(entry "$1" Waits)
+        [[ -z $own ]] || { printf '%s\n' "$own"; return; }
+    fi
     awk -v heading="## $1" -v field="$2: " '
         /^## / { inside = $0 == heading; next }
         inside && index($0, field) == 1 { text = substr($0, length(field) + 1); next }
         text != "" && $0 == "" { exit }
         text != "" { text = text " " $0 }
         END { if (text != "") print text }' "$errors" |
-        if [[ $command == waits ]]; then without_waits; else cat; fi
+        if [[ $command == waits && $2 != Waits ]]; then without_waits; else cat; fi
 }
 
 # A text without the sentences that send the reader to `waits`.
@@ -128,9 +138,9 @@ look_at_block() {
 }
 
 # The word for which the block in the text $3 is refused by the number and name $1 $2: the first that is refused so by itself, or else the last
-# without which the block is not refused so. The program says so, of each by itself; of more than a dozen words none is sought.
+# without which the block is not refused so, beside a call rather another word than M98, M99 or G65. The program says so, of each by itself; of more than a dozen words none is sought.
 word_at_fault() {
-    local due="refused $1 $2 path 1 line 3" words=() k rest found=''
+    local due="refused $1 $2 path 1 line 3" words=() k rest found='' call=''
     [[ $1 =~ ^(5|10|11|2[0-5]|54|5[6-9]|61|62|64)$ ]] || return
     mapfile -t words < <(words_of_block "$3")
     ((${#words[@]} && ${#words[@]} <= 12)) || return
@@ -140,8 +150,10 @@ word_at_fault() {
     done
     for ((k = ${#words[@]} - 1; k >= 0 && ${#found} == 0; k--)); do
         rest=("${words[@]:0:k}" "${words[@]:k+1}")
-        [[ $(look_at_block "${rest[*]-}") == "$due" ]] || found=${words[k]}
+        [[ $(look_at_block "${rest[*]-}") != "$due" ]] || continue
+        if [[ ${words[k]} =~ ^(M0*9[89]|G65)$ ]]; then call=${call:-${words[k]}}; else found=${words[k]}; fi
     done
+    found=${found:-$call}
     if [[ $1 == 1[01] ]]; then whole_word "$3" "$found"; else printf '%s' "$found"; fi
 }
 
@@ -219,11 +231,11 @@ read_answer() {
     if [[ $1 =~ path\ ([12])\ line\ ([0-9]+)(\ path\ ([12])\ line\ ([0-9]+)(\ after\ ([0-9]+))?)? ]]; then
         file=$(tape_of "${BASH_REMATCH[1]}") at=${BASH_REMATCH[2]} other_at=${BASH_REMATCH[5]} after=${BASH_REMATCH[7]}
         [[ -z $other_at ]] || other_file=$(tape_of "${BASH_REMATCH[4]}")
-    elif [[ $1 =~ \ path\ ([12])$ ]]; then
+    elif [[ $1 =~ \ path\ ([12])(\ skip\ .*)?$ ]]; then
         file=$(tape_of "${BASH_REMATCH[1]}")
     elif [[ $1 =~ \ line\ ([0-9]+)$ ]]; then
         at=${BASH_REMATCH[1]}
-        if [[ $number == 90 ]]; then file=$settings; else file=${names[0]-}; fi
+        if [[ $number == 90 ]]; then file=$settings; else file=${all[0]-}; fi
     fi
 }
 

@@ -247,6 +247,16 @@ class Browser:
         self.call("Input.dispatchKeyEvent", type="keyUp", **params)
         self.settle()
 
+    def type(self, text):
+        """Types where the cursor is, at once."""
+        self.call("Input.insertText", text=text)
+
+    def choose(self, name, files):
+        """Chooses files in the field of a name."""
+        root = self.call("DOM.getDocument")["root"]["nodeId"]
+        node = self.call("DOM.querySelector", nodeId=root, selector="#" + name)["nodeId"]
+        self.call("DOM.setFileInputFiles", nodeId=node, files=files)
+
     def shot(self, name):
         """Writes a picture of the window."""
         with open(name, "wb") as file:

@@ -269,7 +269,11 @@ def rows_of_mouse(row, hand, browser):
     before = browser.run("Camera.xOf(0)")
     browser.drag(left + 300, top + 300, left + 340, top + 320)
     row.near("dragging moves the plane with the hand", browser.run("Camera.xOf(0)") - before, 40, 1)
+    browser.hover(*hand.spot(1, 23, 1))
+    row.equal("the place of the mouse is told", hand.shown("#pointer")[:5], "Z \u221230")
     x, y = hand.lane(10, 1)
+    browser.hover(x, y)
+    row.near("and its time", float(hand.shown("#pointer-time").split(" ")[0]), 10, 0.1)
     browser.drag(x, y - 40, x + 100, y - 40)
     row.near("dragging above the lanes sets the time", browser.run("TimeLine.xOf(Look.time) - TimeLine.xOf(10)"), 100, 3)
 
@@ -486,8 +490,23 @@ def rows_of_promises(row, hand, browser):
     row.equal("no exception, and no request", problems, [])
 
 
+def rows_of_looks(row, hand, browser):
+    """By daylight, in the dark, and on paper."""
+    browser.drop([*FLANGE, *trace("flange")])
+    for mode, paper in (("dark", "#1c222a"), ("light", "#ffffff")):
+        browser.call("Emulation.setEmulatedMedia", features=[{"name": "prefers-color-scheme", "value": mode}])
+        browser.settle()
+        row.equal(f"{mode}: the picture has its colours", browser.run("Colours.INK.paper"), paper)
+    browser.run("dispatchEvent(new Event('beforeprint'))")
+    text, pictures = browser.run("(paper => [paper.textContent, paper.querySelectorAll('canvas').length])($('paper'))")
+    lines = [tape.splitlines() for _, tape in FLANGE]
+    row("the picture and all lines of both tapes are printed", pictures == 1 and all(tape[k] in text for tape in lines for k in (0, 5, len(tape) - 1)), text[:200])
+    browser.run("dispatchEvent(new Event('afterprint'))")
+    row("and nothing of it stays", not browser.run("Boolean($('paper'))"))
+
+
 GROUPS = {group.__name__.removeprefix("rows_of_"): group for group in (
-    rows_of_texts, rows_of_refusals, rows_of_times, rows_of_plane, rows_of_mouse, rows_of_tapes, rows_of_races, rows_of_keys, rows_of_screens,
+    rows_of_texts, rows_of_refusals, rows_of_times, rows_of_plane, rows_of_mouse, rows_of_tapes, rows_of_races, rows_of_keys, rows_of_looks, rows_of_screens,
     rows_of_promises)}
 FIRST_ROWS = ("the page begins empty", "tapes before the trace are kept", "the trace then finds them")
 

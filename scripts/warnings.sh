@@ -1,5 +1,5 @@
-# What saves a part, beside the verdict: numbers without a point, tapes of the other G-code system, waits that a switch leaves out, blocks that
-# can only stop a run, and the refusals after the first. Sourced after meanings.sh by scripts/explain and scripts/verdict_json. Nothing here is proved. It reads the
+# What saves a part, beside the verdict: numbers without a point, tapes of the other G-code system, N numbers that are twice there or that no
+# jump leads to, waits and ends that a switch leaves out, blocks that can only stop a run, and the refusals after the first. Sourced after meanings.sh by scripts/explain and scripts/verdict_json. Nothing here is proved. It reads the
 # text of the tapes in its own way; what the program can be asked, it is asked: `room` is a folder for the tapes of such questions.
 
 # Each function prints a line a finding: FILE, LINE, WORD and a text, with this sign between.
@@ -46,21 +46,93 @@ looks_like_system_b() {
         }'
 }
 
-# Waits of the tape $1 behind a sign for block skip: how many, and the first. The verdict is that of the switches in the settings.
-waits_behind_stroke() {
+# The switches that a line of the settings fixes for the path $1, each between blanks.
+fixed_switches() { awk -v path="$1" '($1 == "skip" || $1 == "unskip") && NF == 3 && $2 == path { printf " %s ", $3 }' "$settings"; }
+
+# Waits, ends and calls of programs that wait or end, of the tape $2 of path $1, behind a sign for block skip whose switch no line of the settings
+# fixes: how many, and the first. The verdict is that of the switches in the settings.
+stops_behind_stroke() {
     local first last
     read -r first last _ < <(waits_of_settings)
-    blocks_of "$1" | LC_ALL=C awk -F '\t' -v file="$1" -v sign="$between" -v low="$first" -v high="$last" "$codes"'
-        $2 !~ /^(N[0-9]+)?\// { next }
+    blocks_of "$2" | LC_ALL=C awk -F '\t' -v file="$2" -v sign="$between" -v low="$first" -v high="$last" -v fixed="$(fixed_switches "$1")" "$codes"'
+        function called(text) { return match(text, /P[0-9]+/) ? substr(text, RSTART + 1, RLENGTH - 1) % 10000 : 0 }
         {
-            text = $2; sub(/\/[1-9]?/, "", text)
+            text = $2; own = 0; what = ""; callee = ""
+            if (text ~ /^O[0-9]/) { program = substr(text, 2) + 0; next }
+            if (match(text, /^(N[0-9]+)?\/[1-9]?/)) {
+                own = substr(text, RSTART + RLENGTH - 1, 1); if (own == "/") own = 1
+                text = substr(text, RLENGTH + 1)
+            }
             many = split(codes(text), list, " ")
-            for (k = 1; k <= many; k++)
-                if (list[k] + 0 >= low + 0 && list[k] + 0 <= high + 0 && ++count == 1) { line = $1; word = "M" list[k] }
+            for (k = 1; k <= many; k++) {
+                code = list[k] + 0
+                if (code >= low + 0 && code <= high + 0) { what = "wait at M" list[k]; loud[program] = 1 }
+                else if (code == 2 || code == 30) { what = "end at M" list[k]; loud[program] = 1 }
+                else if (code == 99) what = "come to this M99"
+                else if (code == 98) callee = called(text)
+            }
+            if (text ~ /G0*65([^0-9.]|$)/) callee = called(text)
+            if (callee != "") { calls++; caller[calls] = program; callees[calls] = callee }
+            if (own && index(fixed, " " own " ") == 0 && (what != "" || callee != "")) {
+                stops++; line[stops] = $1; whats[stops] = what; to[stops] = callee; word[stops] = text
+            }
         }
         END {
-            if (count) printf "%s%s%s%s%s%s%s of this tape behind a `/`: with that switch on the path does not wait at %s; the verdict is that of the switches in the settings\n", \
-                file, sign, line, sign, word, sign, count == 1 ? "a wait" : count " waits", word
+            do { more = 0; for (k = 1; k <= calls; k++) if (loud[callees[k]] && !loud[caller[k]]) loud[caller[k]] = more = 1 } while (more)
+            for (k = 1; k <= stops; k++) {
+                if (whats[k] == "" && !loud[to[k]]) continue
+                if (++count > 1) continue
+                at = line[k]; block = word[k]
+                due = whats[k] != "" ? whats[k] : "call O" to[k] ", which waits or ends"
+                one = due ~ /^wait/ ? "a wait" : due ~ /^call/ ? "a call" : "an end"
+            }
+            if (count) printf "%s%s%s%s%s%s%s of this tape behind a `/`: with that switch on the path does not %s; the verdict is that of the switches in the settings, `waits` judges each position\n", \
+                file, sign, at, sign, block, sign, count == 1 ? one : count " waits, ends or calls", due
+        }'
+}
+
+# N numbers of the tape $1 behind another word: how many, and the first. `waits` takes none of them as the target of a jump.
+numbers_behind_words() {
+    blocks_of "$1" | LC_ALL=C awk -F '\t' -v file="$1" -v sign="$between" '
+        {
+            text = $2; sub(/^(\/[1-9]?)+/, "", text); sub(/^N[0-9]+/, "", text)
+            if (text ~ /^(#|IF|WHILE|GOTO|DO[0-9]|END[0-9]|O[0-9<]|<|DPRNT|BPRNT|POPEN|PCLOS|SETVN)/) next
+            while (gsub(/\[[^][]*\]/, "#", text));
+            if (match(text, /N[0-9]+/) && ++count == 1) { line = $1; word = substr(text, RSTART, RLENGTH) }
+        }
+        END {
+            if (count) printf "%s%s%s%s%s%s%s of this tape behind another word: no jump leads to %s here; a control may take it as a target\n", \
+                file, sign, line, sign, word, sign, count == 1 ? "an N number" : count " N numbers", word
+        }'
+}
+
+# N numbers of the tape $1 that stand twice in a program and that a jump or a contour names: the first of them.
+numbers_twice() {
+    blocks_of "$1" | LC_ALL=C awk -F '\t' -v file="$1" -v sign="$between" '
+        function names(where, text) { if (match(text, /[0-9]+/)) named[where, substr(text, RSTART, RLENGTH) + 0] = 1 }
+        {
+            text = $2; sub(/^(\/[1-9]?)+/, "", text)
+            if (text ~ /^O[0-9]/) { program++; next }
+            if (match(text, /^N[0-9]+/)) {
+                number = substr(text, 2, RLENGTH - 1) + 0; text = substr(text, RLENGTH + 1)
+                if ((program, number) in first) { if (!((program, number) in second)) { second[program, number] = $1; order[++many] = program SUBSEP number } }
+                else first[program, number] = $1
+            }
+            if (match(text, /GOTO[0-9]+/)) names(program, substr(text, RSTART, RLENGTH))
+            else if (text ~ /M0*99([^0-9]|$)/ && match(text, /P[0-9]+/)) names(program == 1 ? 1 : "any", substr(text, RSTART, RLENGTH))
+            else if (text ~ /G7[0-3]([^0-9.]|$)/) {
+                if (match(text, /P[0-9]+/)) names(program, substr(text, RSTART, RLENGTH))
+                if (match(text, /Q[0-9]+/)) names(program, substr(text, RSTART, RLENGTH))
+            }
+        }
+        END {
+            for (k = 1; k <= many; k++) {
+                split(order[k], at, SUBSEP)
+                if (!(order[k] in named) && !(("any", at[2]) in named)) continue
+                printf "%s%s%s%sN%d%sN%d stands twice in this program, also at line %d, and a jump names it: the verdict takes the next one after the jump; which one a control takes may hang on a parameter\n", \
+                    file, sign, first[order[k]], sign, at[2], sign, at[2], second[order[k]]
+                exit
+            }
         }'
 }
 
@@ -97,7 +169,9 @@ warnings() {
     for path in 1 2; do
         numbers_without_point "$(tape_of "$path")"
         looks_like_system_b "$(tape_of "$path")"
-        waits_behind_stroke "$(tape_of "$path")"
+        numbers_twice "$(tape_of "$path")"
+        [[ $command != waits ]] || numbers_behind_words "$(tape_of "$path")"
+        [[ $command == waits ]] || stops_behind_stroke "$path" "$(tape_of "$path")"
         [[ $command == waits ]] || blocks_that_stop "$(tape_of "$path")"
     done
 }
@@ -112,11 +186,12 @@ further_refusals() {
 }
 
 refusals_of() {
-    local path=$1 first=$2 copy=$room/further.nc answer last='' gaps=0 line pair
+    local path=$1 first=$2 copy=$room/further.nc answer last='' gaps=0 line pair judging=$command
+    [[ $command != zones ]] || judging=verify
     cp -- "$(tape_of "$path")" "$copy" && chmod 600 "$copy" || return
     if [[ $path == 1 ]]; then pair=("$copy" "$room/end.nc"); else pair=("$room/end.nc" "$copy"); fi
     while ((calls++ < 20 && SECONDS - begun < 10)); do
-        answer=$(look "$command" ${again[@]+"${again[@]}"} -- "${pair[@]}" "$settings")
+        answer=$(look "$judging" ${again[@]+"${again[@]}"} -- "${pair[@]}" "$settings")
         [[ $answer =~ ^refused\ ([0-9]+)\ [A-Za-z]+\ path\ $path(\ line\ ([0-9]+))?$ && $answer != "$last" ]] || return
         line=${BASH_REMATCH[3]}
         if [[ ${BASH_REMATCH[1]} =~ ^(5|1[015]|2[0-5]|54|5[6-9]|61|62|64)$ ]]; then

@@ -12,10 +12,11 @@ resume||blocks turret1 turret2|continues the run of the journal after a stop or 
 edit|EDITS||corrects offsets and variables of the run in the journal, before it goes on|edit edits.txt
 moves|||prints the moves that the journal has|moves
 state|||prints where both paths are, and their offsets and variables|state
-zones|FILE||says between which meetings of that run both turrets may come to one place|zones facing.txt
+zones|FILE [LEFT RIGHT [SETTINGS]]||says where both turrets may come to one place in a run|zones examples/flange_zones.txt examples/upper.nc examples/lower.nc examples/cell.txt
 branch|MEETINGS||writes that run up to a meeting to a second journal, branch.journal|branch 1
 make|N|turret1 turret2|runs a generated test job of some 10,000 blocks (N: 0 to 999999)|make 7
-expand|TAPE||writes a tape with its G71 and G70 over contours of lines as plain blocks|expand examples/roughing.nc'
+expand|TAPE||writes a tape with its G71 and G70 over contours of lines as plain blocks|expand examples/roughing.nc
+plain|TAPE [SETTINGS]||writes a shop'\''s tape in the language that runs, line by line|plain examples/shop.nc'
 
 # The row of the command $1. (The shell would read lines byte by byte, so the row is cut out.)
 row_of() {
@@ -96,18 +97,31 @@ fault_of_words() {
     judge_words
 }
 
-# So many words, in words: from $1 to $2.
+# How many words there may be of those with these names, a number a line: a word may end them before a name in brackets.
+counts_of_words() {
+    local word count=0
+    for word in "$@"; do
+        [[ $word != \[* ]] || printf '%d\n' "$count"
+        count=$((count + 1))
+    done
+    printf '%d\n' "$count"
+}
+
+# So many words, in words: any of these numbers.
 count_words() {
-    if (($1 != $2)); then printf '%d or %d words' "$1" "$2"; elif (($1 == 1)); then printf '1 word'; else printf '%d words' "$1"; fi
+    local last=${*: -1} others
+    others=$(printf '%s, ' "${@:1:$#-1}")
+    (($# == 1)) || printf '%s or ' "${others%, }"
+    if (($# == 1 && last == 1)); then printf '1 word'; else printf '%d words' "$last"; fi
 }
 
 # The same, of the words that fault_of_words has sorted: `names` and `given` options of the command `name`.
 judge_words() {
-    local wanted least=0 word option text seen=' '
+    local wanted counts option text seen=' '
     read -ra wanted <<<"$(words_of "$name")"
-    for word in ${wanted[@]+"${wanted[@]}"}; do [[ $word == \[* ]] || least=$((least + 1)); done
-    if ((${#names[@]} < least || ${#names[@]} > ${#wanted[@]})); then
-        printf '%s takes %s%s, and %d %s given\n' "$name" "$(count_words "$least" "${#wanted[@]}")" "${wanted[*]:+ (${wanted[*]})}" \
+    mapfile -t counts < <(counts_of_words ${wanted[@]+"${wanted[@]}"})
+    if [[ " ${counts[*]} " != *" ${#names[@]} "* ]]; then
+        printf '%s takes %s%s, and %d %s given\n' "$name" "$(count_words "${counts[@]}")" "${wanted[*]:+ (${wanted[*]})}" \
             "${#names[@]}" "$( ((${#names[@]} == 1)) && printf is || printf are)"
         return
     fi
@@ -176,8 +190,8 @@ Options of the program: --blocks N stops after N records; --turret1 FILE and
 call, during the run; --outside A-B: the tapes may lack the programs O A to O B.
 `waits` assumes something of the machine: see `help waits`.
 `run` and `make` begin the journal twin.journal in the current folder; `resume`,
-`edit`, `moves`, `state`, `zones` and `branch` read it there. `branch` alone
-writes branch.journal.
+`edit`, `moves`, `state`, `branch`, and `zones` with FILE alone, read it there.
+`branch` alone writes branch.journal.
 
   twin_lathe waits examples/upper.nc examples/lower.nc examples/cell.txt
 
@@ -227,6 +241,11 @@ path stands at one; then both go on. At M02 and M30 it stays. Anything else is
 an alarm that stops both paths. The line `goes on` names every code and program
 for which only this assumption speaks: see that no parameter makes such a code a
 call.
+
+It judges every position of the block skip switches that the tapes name and that
+no line of the settings (skip, unskip) fixes. `skip 1 ..` says that waits or
+ends depend on switch 1: it must stand the same for both paths, and must not be
+turned while these blocks are read.
 END
             ;;
         races)
@@ -252,9 +271,17 @@ END
             cat <<'END'
 FILE says how both paths lie in one cell, a line each, all of them optional:
 `frame 2 X0 Z500.` where the origin of a path lies, `mirror 2` that a path sees
-X from the other side, `gap X5. Z5.` how far apart they are to stay. It prints a
-line for each segment between two meetings, `clear` or `hit`. `clear` is proved
-of the programmed points, for any timing; of tools and holders it knows nothing.
+X from the other side, `gap X5. Z5.` how far apart they are to stay (X is a
+diameter). It prints a line for each segment between two meetings, `clear` or
+`hit`. `clear` is proved of the programmed points, for any timing of these
+moves.
+With LEFT and RIGHT the run is that of `trace`, in which the paths take turns,
+of at most 100,000 blocks; it needs no run before it. With FILE alone it is the
+run of the journal twin.journal.
+With a line `by moves` each pair of moves is judged, with boxes round the tools
+(`tool 1 3 X-40. X20. Z0. Z120.`) and boxes that stand in the cell (`fixed 1 X0.
+X250. Z-300. Z0.`), and the first two moves that come near are named. A line
+`races N` says that the pair has N races: another timing makes other moves.
 END
             ;;
         branch)
@@ -308,7 +335,7 @@ help_of() {
     IFS='|' read -r name words options what example < <(row_of "$1" || own_row_of "$1")
     shown=$(usage_of "$name")
     printf 'twin_lathe %s%s\n\n  %s\n\n  twin_lathe %s\n' "$name" "${shown:+ $shown}" "$what" "$example" | in_columns
-    if judges_files "$name"; then
+    if [[ $words == *'LEFT RIGHT'* ]]; then
         printf '\nLEFT is the tape of path 1, RIGHT the tape of path 2, SETTINGS the file that\ndescribes the machine.\n'
     fi
     body=$(body_of "$name")

@@ -7,7 +7,7 @@ const Answers = (() => {
   const FULL = 14, JOURNAL_FULL = "The run ends there too: its journal is full. The line records of the settings can allow more.";
   const meanings = JSON.parse($("meanings").textContent);
   const editors = { 1: null, 2: null, settings: null };
-  let marks = new Map();                // what is marked for the waits, the verdict and the run, and for a race that was clicked
+  let marks = new Map();                // what is marked for the waits, the verdict and the run, and for a race or a hit that was clicked
   let refusedWaits = "";                // the line that refuses the waits, if one does
   let refused = [];                     // the lines that refuse, of the verdict and those found behind it, in their order
   let stood = -1;                       // at which of them the keys came to
@@ -28,9 +28,9 @@ const Answers = (() => {
     for (const place of [...places].reverse()) editors[place.of].goTo(place.line);
   }
 
-  /** Marks the lines of the first of race, verdict, waits and run that has some. */
+  /** Marks the lines of the first of hit, race, verdict, waits and run that has some. */
   function markAll() {
-    const places = ["races", "verdict", "waits", "run"].map(part => marks.get(part) ?? []).find(some => some.length) ?? [];
+    const places = ["hit", "races", "verdict", "waits", "run"].map(part => marks.get(part) ?? []).find(some => some.length) ?? [];
     for (const of of Object.keys(editors)) editors[of].mark(places.filter(place => place.of === of).map(place => place.line));
   }
 
@@ -151,9 +151,9 @@ const Answers = (() => {
     return element("div", "judge-note", element("button", "", `${number} ${name}`), element("div", "judge-why", ...meaningOf(number)));
   }
 
-  /** Goes to the next refused line of all texts, or to the one before. */
+  /** Goes to the next refused line of all texts, or to the one before; if none is refused, to a finding of the zones. */
   function step(way) {
-    if (!refused.length) return;
+    if (!refused.length) return Zones.step(way);
     stood = (Math.max(stood, way > 0 ? -1 : 0) + way + refused.length) % refused.length;
     goTo(placesOf(refused[stood]));
   }
@@ -186,8 +186,19 @@ const Answers = (() => {
   /** A race; a click on it marks its two lines. */
   function raceRow(text) {
     const made = row(text);
-    made.addEventListener("click", () => { marks.set("races", placesOf(text)); markAll(); });
+    made.addEventListener("click", () => {
+      marks.delete("hit");
+      marks.set("races", placesOf(text));
+      markAll();
+    });
     return made;
+  }
+
+  /** Marks the lines of moves that come too near, each with its text; none takes such marks away. */
+  function markHit(places) {
+    marks.set("hit", places);
+    if (places.length) marks.delete("races");
+    markAll();
   }
 
   const SHOW = { waits: showWaits, verdict: showVerdict, trace: showTrace };
@@ -208,6 +219,9 @@ const Answers = (() => {
     $("judge-further").replaceChildren();
     clear("run");
     clear("races");
+    Written.forget();
+    State.forget();
+    Zones.forget();
   }
 
   /** Takes away what a part of the panel said. */
@@ -224,5 +238,5 @@ const Answers = (() => {
     clear("waits");
   }
 
-  return { editors, show, showFurther, step, sayInstead };
+  return { editors, show, showFurther, step, sayInstead, goTo, markHit, meaningOf, numberOf };
 })();

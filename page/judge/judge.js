@@ -4,23 +4,25 @@
 
 const Judge = (() => {
   const PAUSE = 150;                    // milliseconds that a typed change waits for the next one
-  const MOST_BYTES = 2 ** 26;           // a file with more is not read at all
   const names = ["judge-left", "judge-right", "judge-cell"];
   const texts = names.map(name => new Editor(name, askSoon));
   const [left, right, cell] = texts;
-  const PARTS = ["waits", "verdict", "trace"];
+  const LANES = ["waits", "pair"];      // what a worker is for: the waits; the verdict, the run and the races, by one call
   const answers = {};                   // the answers to the newest question, for tests
   const came = {};                      // those of its parts that are not shown yet, since one before them is still to come
-  const reports = new Map();            // who waits for a report, by its number
-  const lanes = new Map();              // the worker of each part
+  const clicks = new Map();             // who waits for what a click asked for, by its number
+  const lanes = new Map();              // the worker of each lane
+  const calls = [];                     // the exports that the workers called for the newest question and for clicks since, for tests
   let isHeld = false;                   // whether a question came before the workers
-  let module = null, isBroken = false, asked = 0, waiting = 0, workers = 0, keeping = 0;
+  let module = null, isBroken = false, asked = 0, waiting = 0, workers = 0, keeping = 0, clicked = 0;
+  let plained = null;                   // what `plain` wrote of the newest texts, if they are refused as they are
+  let ran = null;                       // the three texts whose run is drawn: those that stand here, or what `plain` wrote of them
 
   Object.assign(Answers.editors, { 1: left, 2: right, settings: cell });
 
   // ---- the workers ----
 
-  /** Makes the module and its workers, one for each part of an answer, and asks what was asked meanwhile. */
+  /** Makes the module and its workers, and asks what was asked meanwhile. */
   async function start() {
     const bytes = Uint8Array.from(atob($("module").textContent.trim()), letter => letter.charCodeAt(0));
     try {
@@ -28,7 +30,7 @@ const Judge = (() => {
     } catch (fault) {
       return sayUnable(fault.message);
     }
-    PARTS.forEach(makeWorker);
+    LANES.forEach(makeWorker);
     if (isHeld) ask();
   }
 
@@ -39,29 +41,30 @@ const Judge = (() => {
     setState("stopped");
   }
 
-  /** Makes the worker of a part, and gives it the module. What it answers is taken if it is of the newest question. */
-  function makeWorker(part) {
+  /** Makes the worker of a lane, and gives it the module. What it answers is taken if it is of the newest question. */
+  function makeWorker(lane) {
     workers += 1;
     const script = URL.createObjectURL(new Blob([$("worker").textContent], { type: "text/javascript" })), worker = new Worker(script);
     worker.onmessage = ({ data }) => {
       URL.revokeObjectURL(script);
-      if (data.part === "report") takeReport(data);
-      else if (data.number === asked) takePart(data);
+      calls.push(...data.calls);
+      if (data.part === "asked") takeClicked(data);
+      else if (data.number === asked) takePart(data, lane);
     };
-    worker.onerror = event => stopped(part, event.message);
+    worker.onerror = event => stopped(lane, event.message);
     worker.postMessage({ module });
-    lanes.set(part, worker);
+    lanes.set(lane, worker);
   }
 
   /** Takes a new worker in place of one that may be spoilt. */
-  function makeAnew(part) {
-    lanes.get(part).terminate();
-    makeWorker(part);
+  function makeAnew(lane) {
+    lanes.get(lane).terminate();
+    makeWorker(lane);
   }
 
   /** A worker itself ended. */
-  function stopped(part, why) {
-    makeAnew(part);
+  function stopped(lane, why) {
+    makeAnew(lane);
     asked += 1;
     Answers.sayInstead(`The judge stopped (${why}), and was made anew. Nothing is said about these texts. Change one to ask again.`, false);
     setState("stopped");
@@ -82,27 +85,43 @@ const Judge = (() => {
     asked += 1;
     keepSoon();
     for (const list of [answers, came]) for (const part of Object.keys(list)) delete list[part];
+    calls.length = 0;
+    plained = null;
     const lacking = [left, right].findIndex(text => text.isEmpty());
     if (lacking >= 0) return sayLacking(lacking + 1);
     setState("asked");
     isHeld = !lanes.size;
-    const bytes = texts.map(text => text.bytes());
-    for (const [part, worker] of lanes) worker.postMessage({ number: asked, part, texts: bytes, outside: outside() });
+    const bytes = bytesOfTexts();
+    for (const [lane, worker] of lanes) worker.postMessage({ number: asked, part: lane, texts: bytes, outside: outside() });
   }
 
-  /** The report of the run, of the texts as they are now. */
-  function report() {
+  /** Asks the judge for something by a click, and gives its answer. */
+  function askFor(part, given) {
     return new Promise(done => {
-      const number = asked * 1000 + reports.size;
-      reports.set(number, done);
-      lanes.get("trace").postMessage({ number, part: "report", texts: texts.map(text => text.bytes()) });
+      clicked += 1;
+      clicks.set(clicked, done);
+      lanes.get("pair").postMessage({ number: clicked, part, ...given });
     });
   }
 
-  /** Gives a report to who waits for it. */
-  function takeReport({ number, answer }) {
-    reports.get(number)?.(answer);
-    reports.delete(number);
+  const bytesOfTexts = () => texts.map(text => text.bytes());
+
+  /** The report of the run that is drawn. */
+  const report = () => askFor("report", { texts: ran });
+
+  /** The tape of a path, from 0, as `plain` or `expand` writes it out. */
+  const written = (name, of) => askFor("written", { texts: bytesOfTexts(), name: `lathe_${name}`, of });
+
+  /** The state of the machine after a meeting of the run that is drawn. */
+  const stateAfter = meeting => askFor("state", { texts: ran, meeting });
+
+  /** What a text of zones asks for of the run that is drawn. */
+  const zonesOf = zones => askFor("zones", { texts: ran, zones });
+
+  /** Gives an answer to who waits for it. */
+  function takeClicked({ number, answer }) {
+    clicks.get(number)?.(answer);
+    clicks.delete(number);
   }
 
   /** The least and the greatest number of the programs that are in the control and on no tape; 1 and 0 if there are none. */
@@ -132,13 +151,17 @@ const Judge = (() => {
     waiting = setTimeout(ask, PAUSE);
   }
 
-  /** Takes a part of the answer. The parts are shown in their order: waits, verdict, and the trace or what is refused besides. */
-  function takePart({ part, answer }) {
-    if (answer.kind === "broken off") makeAnew(part);
+  /** The parts that come after a verdict: the run of an accepted pair, or what else is said of texts that are refused. */
+  function partsAfter(verdict) {
+    if (verdict?.kind !== "said") return [];
+    return verdict.status === 0 ? ["trace"] : verdict.status === 1 ? ["plain", "further"] : [];
+  }
+
+  /** Takes a part of the answer. The parts are shown in their order: waits, verdict, and what comes after that. */
+  function takePart({ part, answer }, lane) {
+    if (answer.kind === "broken off") makeAnew(lane);
     came[part] = answer;
-    const isAccepted = came.verdict?.kind === "said" && came.verdict.status === 0;
-    const due = ["waits", "verdict", ...isAccepted ? ["trace"] : came.verdict?.kind === "said" ? ["further"] : []];
-    for (const next of due) {
+    for (const next of ["waits", "verdict", ...partsAfter(came.verdict)]) {
       if (!came[next]) return;
       if (!shownParts.has(came[next])) show(next, came[next]);
     }
@@ -151,105 +174,37 @@ const Judge = (() => {
   function show(part, answer) {
     shownParts.add(answer);
     if (part === "further") return Answers.showFurther(answer);
+    if (part === "plain") return showPlain(answer);
     answers[part] = answer;
     Answers.show(part, answer);
     if (part === "verdict") setStale(answer.status !== 0);
-    if (part === "trace" && /^trace /.test(answer.text)) draw(answer.text);
+    if (part === "trace" && /^trace /.test(answer.text)) draw(answer.text, [left, right].map(text => text.field.value), bytesOfTexts());
   }
 
-  /** Gives the trace and both tapes to the picture. */
-  function draw(trace) {
-    const tapes = [left, right].map(text => ({ name: text.fileName || "typed", text: text.field.value }));
+  /** Shows what `plain` wrote of tapes that are refused as they are, and draws its run. */
+  function showPlain(answer) {
+    plained = answer;
+    Written.showPlain(answer);
+    if (!/^trace /.test(answer.trace?.text ?? "")) return;
+    setStale(false);
+    draw(answer.trace.text, answer.tapes.map(tape => textOf(tape.bytes)), [...answer.tapes.map(tape => tape.bytes), answer.settings]);
+    Contour.take([left, right].map(text => text.letters()));
+  }
+
+  /** Gives the trace and both tapes to the picture; its times go by the rates of the settings. */
+  function draw(trace, shownTapes, bytes) {
+    ran = bytes;
+    Contour.take([]);
+    Rates.take(cell.letters());
+    const tapes = [left, right].map((text, k) => ({ name: text.fileName || "typed", text: shownTapes[k], path: k + 1 }));
     Page.take([{ name: [left, right].map(text => text.fileName).filter(Boolean).join(", "), text: trace }, ...tapes]);
+    $("save-picture").disabled = false;
+    State.tell((trace.match(/^met /gm) ?? []).length);
+    Zones.tell();
   }
 
-  // ---- texts come in ----
+  // ---- what is asked with the texts ----
 
-  const read = async file => ({ name: file.name, bytes: new Uint8Array(await file.arrayBuffer()) });
-
-  /** Reads files, and gives them to whoever takes them; says so if one can't be read. */
-  async function take(files, taker) {
-    const long = files.find(file => file.size > MOST_BYTES);
-    if (long) return Answers.sayInstead(`${long.name} is far too long for a tape.`, false);
-    try {
-      if (await taker(await Promise.all(files.map(read)))) ask();
-    } catch (fault) {
-      if (!(fault instanceof DOMException)) throw fault;
-      Answers.sayInstead("A file can't be read. Is it a folder?", false);
-    }
-  }
-
-  /** Several files: what they are says where they go. It is told, and what is left out. It answers whether they were taken. */
-  async function share(files) {
-    const shared = Files.share(files, [left, right].map(text => text.fileName), [left, right].map(text => text.isEmpty()));
-    const places = [[shared.given[1], left], [shared.given[2], right], [shared.given.settings, cell]].filter(([file]) => file);
-    if (!await Saving.mayGo(places.map(([, text]) => text))) return false;
-    for (const [file, text] of places) text.set(file.name, file.bytes);
-    sayCame(Files.tell(shared));
-    return true;
-  }
-
-  /** A single file, for this text. */
-  async function give(text, { name, bytes }) {
-    if (!await Saving.mayGo([text])) return false;
-    text.set(name, bytes);
-    sayCame({ said: [], isAsked: false });
-    return true;
-  }
-
-  /** Says what came and what was left out, and asks if the paths are right where nothing says so. */
-  function sayCame({ said, isAsked }) {
-    const isDoubtful = Files.areExchanged(left.fileName, right.fileName);
-    if (isDoubtful) said.push("By their names the tapes are the other way round. Is it so?");
-    $("judge-came-said").textContent = said.join(" ");
-    $("judge-came").hidden = !said.length;
-    $("judge-came").classList.toggle("asks", isAsked || isDoubtful);
-    for (const name of ["exchange", "right"]) $(`judge-came-${name}`).hidden = !(isAsked || isDoubtful);
-    $("judge-came-close").hidden = isAsked || isDoubtful;
-  }
-
-  const sayNothing = () => { $("judge-came").hidden = true; };
-
-  /** Gives each path the tape of the other, and asks. The settings stay as they are: they are the paths', and not the tapes'. */
-  function exchange() {
-    const [one, two] = [left, right].map(text => [text.fileName, text.bytes(), text.isChanged]);
-    left.set(...two);
-    right.set(...one);
-    const [first, second] = [left, right].map(text => text.fileName || "the other text");
-    sayCame({ said: [`Exchanged: path 1 has ${first}, path 2 has ${second}.`], isAsked: false });
-    ask();
-  }
-
-  /** Takes the files that were dropped; the picture's own handler does not see them. */
-  function takeDropped(event, taker) {
-    event.preventDefault();
-    event.stopImmediatePropagation();
-    document.body.classList.remove("drag");
-    const files = [...event.dataTransfer.files];
-    if (files.length) take(files, taker);
-  }
-
-  // A single file that is dropped on a text goes there; all else that is dropped or chosen is shared out.
-  texts.forEach((text, k) => {
-    text.field.addEventListener("dragover", () => text.field.classList.add("over"));
-    for (const kind of ["dragleave", "drop"]) text.field.addEventListener(kind, () => text.field.classList.remove("over"));
-    $(`${names[k]}-file`).addEventListener("change", event => {
-      take([...event.target.files], ([file]) => give(text, file));
-      event.target.value = "";
-    });
-  });
-  addEventListener("drop", event => {
-    const text = texts.find(some => some.field === event.target);
-    if (text) text.field.classList.remove("over");
-    takeDropped(event, files => text && files.length === 1 ? give(text, files[0]) : share(files));
-  }, true);
-  $("file").addEventListener("change", event => {
-    event.stopImmediatePropagation();
-    take([...event.target.files], share);
-    event.target.value = "";
-  }, true);
-  for (const name of ["judge-exchange", "judge-came-exchange"]) $(name).addEventListener("click", exchange);
-  for (const name of ["right", "close"]) $(`judge-came-${name}`).addEventListener("click", sayNothing);
   $("judge-outside").addEventListener("input", askSoon);
   $("judge-outside").addEventListener("keydown", event => event.stopPropagation());
 
@@ -273,7 +228,7 @@ const Judge = (() => {
     clearTimeout(keeping);
     keeping = 0;
     if (texts.every(text => text.isEmpty())) return tellKept("");
-    if (Keep.write(texts, $("judge-outside").value)) tellKept("Kept in this browser, for after a reload. Nothing is sent.");
+    if (Keep.write(texts, $("judge-outside").value, Zones.text())) tellKept("Kept in this browser, for after a reload. Nothing is sent.");
     else tellKept(Keep.isWanted() ? "This browser can't keep these texts: save them." : "");
   }
 
@@ -285,7 +240,8 @@ const Judge = (() => {
     if (!kept) return;
     texts.forEach((text, k) => text.set(kept.texts[k].name, bytesOf(kept.texts[k].text), kept.texts[k].isChanged));
     $("judge-outside").value = kept.outside;
-    sayCame({ said: ["These texts were open before. This browser kept them."], isAsked: false });
+    Zones.set(kept.zones ?? "");
+    Coming.tell({ said: ["These texts were open before. This browser kept them."], isAsked: false });
     ask();
   }
 
@@ -294,9 +250,10 @@ const Judge = (() => {
     if (!await Saving.mayGo(texts)) return;
     for (const text of texts) text.set("", new Uint8Array());
     $("judge-outside").value = "";
+    Zones.set("");
     Keep.forget();
     tellKept("");
-    sayNothing();
+    Coming.tellNothing();
     ask();
     sayFirst();
     Page.clear();
@@ -310,10 +267,11 @@ const Judge = (() => {
     return copy;
   }
 
+  Coming.watch(texts, ask);
   Seeking.watch(texts);
   Paper.sources.texts = () => [[left, "path 1"], [right, "path 2"], [cell, "settings"]].filter(([text]) => !text.isEmpty())
     .map(([text, what]) => ({ name: `${what}: ${text.title.textContent || "typed"}`, text: text.field.value }));
-  Paper.sources.said = () => ["verdict", "further", "waits", "run", "races"].map(part => $(`judge-${part}`)).filter(part => part.textContent)
+  Paper.sources.said = () => ["verdict", "further", "plain", "waits", "run", "races", "state", "zones"].map(part => $(`judge-${part}`)).filter(part => part.textContent)
     .map(unfolded);
   Paper.sources.hasPicture = () => Boolean(Look.trace) && !document.body.classList.contains("stale");
   $("save-report").addEventListener("click", () => Saving.saveReport(texts));
@@ -326,5 +284,5 @@ const Judge = (() => {
   sayFirst();
   restore();
   start();
-  return { ask, texts, answers, report, keepSoon, get workers() { return workers; } };
+  return { ask, texts, answers, calls, showPlain, report, written, stateAfter, zonesOf, keepSoon, get workers() { return workers; }, get plained() { return plained; } };
 })();

@@ -25,11 +25,11 @@ const Keep = (() => {
   const forget = () => withStore(store => store.removeItem(TEXTS));
 
   /** Keeps texts, each with its name, its letters and whether it is saved as a file; says whether they are kept. */
-  function write(texts, outside) {
+  function write(texts, outside, zones) {
     if (!isWanted()) return false;
     const isShort = texts.reduce((sum, text) => sum + text.length, 0) <= MOST_LETTERS;
     const kept = isShort ? texts.map(text => ({ name: text.fileName, text: text.letters(), isChanged: text.isChanged })) : [];
-    const isKept = isShort && withStore(store => { store.setItem(TEXTS, JSON.stringify({ texts: kept, outside })); return true; });
+    const isKept = isShort && withStore(store => { store.setItem(TEXTS, JSON.stringify({ texts: kept, outside, zones })); return true; });
     if (!isKept) forget();
     return Boolean(isKept);
   }

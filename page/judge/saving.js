@@ -48,11 +48,14 @@ const Saving = (() => {
 
   /** Saves all that was said of the texts, and the report of the run. */
   async function saveReport(texts) {
-    const { answers } = Judge, run = answers.trace ? await Judge.report() : null;
+    const { answers, plained } = Judge, isRun = /^trace /.test(answers.trace?.text ?? plained?.trace?.text ?? "");
+    const run = isRun ? await Judge.report() : null;
     const further = [...$("judge-further").querySelectorAll("summary")].map(line => line.textContent).join("\n");
     const races = (answers.trace?.text ?? "").match(/^races \d+\n[^]*/m);
     const lines = [...headOf(texts), ...part("verify", saidOf("verdict")), ...further ? part("further refusals", further) : [],
+                   ...plained ? part("written out by plain", saidOf("plain")) : [],
                    ...part("waits", answers.waits?.text || saidOf("waits")), ...races ? part("races", races[0]) : [],
+                   ...["state", "zones"].flatMap(name => $(`judge-${name}`).children.length ? part(name, saidOf(name)) : []),
                    ...run ? part("run, the paths take turns", run.text) : []];
     download("twin_lathe report.txt", `${lines.join("\n")}\n`, "text/plain");
   }

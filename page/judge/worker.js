@@ -2,11 +2,14 @@
 // The judge: the calls of include/lathe.h over the library's module, in workers, so that the page stays alive while they run and the calls
 // run beside each other. Each call has an instance of its own, with a memory of its own: one that breaks off leaves nothing behind.
 
-const TEXT_ROOM = 1 << 16, TRACE_ROOM = 1 << 24;      // bytes for an answer; a longer one is asked for again with its whole length
+const TEXT_ROOM = 1 << 16, LIST_ROOM = 1 << 22, TRACE_ROOM = 1 << 24;      // bytes for an answer; a longer one is asked for again with its whole length
 const MOST_RECORDS = 50000;                           // a picture ends there
-const NO_MEMORY = 12;                                 // the status of a call that could get none
+const REFUSED = 1, NO_MEMORY = 12;                    // the statuses of texts that are refused, and of a call that could get no memory
+const SHORT = 1 << 17;                                // bytes of both tapes together: a run of these takes no time that is felt
+const MOST_TURNS = 8 * MOST_RECORDS, EVENT_BYTES = 64, MET = 12;                 // of lathe_events: the turns that are asked for, an event
 
 let module = null, newest = null;
+let called = [];                                      // the exports that were called since something was answered last, for tests
 
 /** The browser gives no memory for a call. */
 class NoMemory extends Error {}
@@ -20,8 +23,8 @@ function newInstance() {
   }
 }
 
-/** Calls an export with three texts, and gives its status and its text. */
-function call(name, texts, more, firstRoom) {
+/** Calls an export with texts, and gives its status, its bytes and how many items they are: bytes, or events of so many bytes each. */
+function callRaw(name, texts, more, firstRoom, itemBytes = 1) {
   const lathe = newInstance();
   const roomFor = size => {
     const at = lathe.room(BigInt(size));
@@ -35,24 +38,63 @@ function call(name, texts, more, firstRoom) {
   });
   const length = roomFor(8);
   const say = size => {
-    const at = roomFor(size), status = lathe[name](...given, ...more, at, BigInt(size), length) & 255;
+    called.push(name);
+    const at = roomFor(size * itemBytes), status = lathe[name](...given, ...more, at, BigInt(size), length) & 255;
     return { status, at: Number(at), size: Number(new DataView(lathe.memory.buffer).getBigUint64(Number(length), true)) };
   };
   let said = say(firstRoom);
   if (said.size > firstRoom) said = say(said.size);
-  const text = new TextDecoder().decode(new Uint8Array(lathe.memory.buffer, said.at, said.size));
-  return { kind: said.status === NO_MEMORY ? "no memory" : "said", status: said.status, text };
+  return { status: said.status, bytes: new Uint8Array(lathe.memory.buffer, said.at, said.size * itemBytes) };
 }
 
-/** The same; a call that breaks off, by a trap or at the end of its stack, says why. */
-function answer(...words) {
+/** Calls an export with texts, and gives its status and its text. */
+function call(name, texts, more, firstRoom) {
+  const { status, bytes } = callRaw(name, texts, more, firstRoom);
+  return { kind: status === NO_MEMORY ? "no memory" : "said", status, text: new TextDecoder().decode(bytes) };
+}
+
+/** What a call gives; a call that breaks off, by a trap or at the end of its stack, says why. */
+function guarded(made) {
   try {
-    return call(...words);
+    return made();
   } catch (fault) {
     if (fault instanceof NoMemory) return { kind: "no memory", status: NO_MEMORY, text: "" };
     return { kind: "broken off", status: -1, text: String(fault) };
   }
 }
+
+const answer = (...words) => guarded(() => call(...words));
+
+// ---- what was asked before ----
+
+let keptTexts = [], kept = [];                        // the texts of the newest question, and what was made of them
+
+/** Whether two texts have the same bytes. */
+function isSame(one, two) {
+  let at = 0;
+  while (at < one.length && one[at] === two[at]) at += 1;
+  return at === one.length && at === two.length;
+}
+
+const areSame = (ones, others) => ones.length === others.length && ones.every((one, k) => isSame(one, others[k]));
+
+/** Forgets what was made of other texts than these. */
+function keepOf(texts) {
+  if (!areSame(texts, keptTexts)) kept = [];
+  keptTexts = texts;
+}
+
+/** What is made under a name, of texts and more: what was made of the same before, if a module answered; else what is made now. */
+function once(name, texts, more, make) {
+  const key = `${name} ${more}`, before = kept.find(some => some.key === key && areSame(some.texts, texts));
+  if (before) return before.answer;
+  const made = make();
+  if (made.kind === "said") kept.push({ key, texts, answer: made });
+  return made;
+}
+
+/** The answer of an export, once for the same texts. */
+const keptAnswer = (name, texts, more, room) => once(name, texts, more, () => answer(name, texts, more, room));
 
 /** Lets a newer question come in. */
 const pause = () => new Promise(done => setTimeout(done));
@@ -105,30 +147,114 @@ async function furtherOf(question, known) {
   return { lines: lines.filter(line => line !== known.text.trimEnd()), isWhole };
 }
 
+// ---- tapes that are written out ----
+
+/** A tape as `lathe_plain` or `lathe_expand` writes it out, with its bytes; or the line of its refusal. */
+function writtenOut(name, tape, cell) {
+  const texts = name === "lathe_plain" ? [tape, cell] : [tape];
+  return once(name, texts, [], () => guarded(() => {
+    const { status, bytes } = callRaw(name, texts, [], 2 * tape.length + TEXT_ROOM);
+    if (status === NO_MEMORY) return { kind: "no memory", status, text: "" };
+    return { kind: "said", status, bytes: status === 0 ? bytes.slice() : null, text: status === 0 ? "" : new TextDecoder().decode(bytes) };
+  }));
+}
+
+const MOST_OF_PLAIN = 100;
+
+/** Settings that `plain` takes, for the run of what it wrote: the lines that the run does not take, and that so are for `plain` alone, are
+ * left empty. */
+function settingsOfRun(cell) {
+  let left = cell;
+  for (let k = 0; k < MOST_OF_PLAIN; k++) {
+    const line = lineOf(answer("lathe_verify", [NO_TAPE, NO_TAPE, left], [], TEXT_ROOM), 2);
+    if (!line) break;
+    left = without(left, line);
+  }
+  return left;
+}
+
+/** Both tapes in the language that runs, and the run of what was written, if `plain` writes both out and changes one of them, or if the
+ * settings have lines for it. */
+function plainOf({ texts }, verdict) {
+  const [left, right, cell] = texts, tapes = [left, right].map(tape => writtenOut("lathe_plain", tape, cell)), areWritten = tapes.every(tape => tape.bytes);
+  const settings = areWritten && lineOf(verdict, 2) ? settingsOfRun(cell) : cell, isLess = settings !== cell;
+  const isOther = areWritten && (isLess || tapes.some((tape, k) => !isSame(tape.bytes, texts[k])));
+  return { tapes, settings, isLess, trace: isOther ? traceOf([tapes[0].bytes, tapes[1].bytes, settings]) : null };
+}
+
+// ---- the state at a meeting ----
+
+/** How many records there are with each meeting of the run whose paths take turns. */
+function recordsOfMeetings(texts) {
+  const order = new Uint8Array(MOST_TURNS).map((_, k) => 1 + k % 2);
+  const { bytes } = callRaw("lathe_events", [...texts, order], [], 2 * MOST_RECORDS, EVENT_BYTES);
+  const view = new DataView(bytes.buffer, bytes.byteOffset, bytes.length), records = [];
+  for (let at = 0; at < bytes.length; at += EVENT_BYTES) if (bytes[at + 9] === MET) records.push(view.getUint32(at, true));
+  return { kind: "said", records: records.filter(count => count <= MOST_RECORDS) };
+}
+
+/** The state of the machine right after a meeting; before the first turn if it is 0. */
+function stateAt({ texts, meeting }) {
+  return guarded(() => {
+    const records = meeting > 0 ? once("meetings", texts, [], () => recordsOfMeetings(texts)).records[meeting - 1] : 0;
+    if (records === undefined) return { kind: "said", status: REFUSED, text: "" };
+    return once("lathe_state", texts, [records], () => call("lathe_state", texts, [records], TEXT_ROOM));
+  });
+}
+
 // ---- questions ----
 
-/** The call that each part of an answer takes. */
-const CALLS = {
-  waits: ({ texts, outside }) => answer("lathe_waits", texts, outside, TEXT_ROOM),
-  verdict: ({ texts }) => answer("lathe_verify", texts, [], TEXT_ROOM),
-  trace: ({ texts }) => answer("lathe_trace", texts, [MOST_RECORDS], TRACE_ROOM),
-  report: ({ texts }) => answer("lathe_run", texts, [MOST_RECORDS], TRACE_ROOM),
+const traceOf = texts => keptAnswer("lathe_trace", texts, [MOST_RECORDS], TRACE_ROOM);
+
+/** What a trace says of the verdict: the texts are accepted, or it is the line of their refusal. */
+function verdictOf(trace) {
+  return trace.kind === "said" && trace.status !== REFUSED && trace.text ? { ...trace, status: 0, text: "accepted\n" } : trace;
+}
+
+/** Whether the verdict of these texts may wait for their run. */
+const isShort = ([left, right]) => left.length + right.length <= SHORT;
+
+/** Answers for the pair: one call reads both tapes, for the verdict, the run and the races. Of long tapes the verdict comes before, by a call
+ * of its own. After a refusal comes what else is said. */
+async function judgePair(question, say) {
+  const { texts } = question, trace = isShort(texts) ? traceOf(texts) : null;
+  const verdict = trace ? verdictOf(trace) : keptAnswer("lathe_verify", texts, [], TEXT_ROOM);
+  say("verdict", verdict);
+  if (verdict.kind !== "said") return;
+  if (verdict.status === 0) return say("trace", trace ?? traceOf(texts));
+  if (verdict.status !== REFUSED) return;
+  say("plain", plainOf(question, verdict));
+  say("further", await furtherOf(question, verdict));
+}
+
+/** What is asked for by a click. It ends no other question. */
+const ASKED = {
+  report: ({ texts }) => keptAnswer("lathe_run", texts, [MOST_RECORDS], TRACE_ROOM),
+  written: ({ texts, name, of }) => writtenOut(name, texts[of], texts[2]),
+  state: stateAt,
+  zones: ({ texts, zones }) => keptAnswer("lathe_zones", [...texts, zones], [MOST_RECORDS], LIST_ROOM),
 };
 
-/** Answers its part of a question, unless a newer one has come. Behind a verdict that refuses comes what is refused besides. */
+/** Gives a part of the answer to a question, with the exports that were called for it. */
+function post(number, part, said) {
+  postMessage({ number, part, answer: said, calls: called });
+  called = [];
+}
+
+/** Answers a question, unless a newer one has come. */
 async function judge(question) {
   newest = question;
   await pause();
   if (question !== newest) return;
-  const { number, part } = question, said = CALLS[part](question);
-  postMessage({ number, part, answer: said });
-  if (part === "verdict" && said.kind === "said" && said.status !== 0)
-    postMessage({ number, part: "further", answer: await furtherOf(question, said) });
+  keepOf(question.texts);
+  const say = (part, said) => post(question.number, part, said);
+  if (question.part === "waits") say("waits", keptAnswer("lathe_waits", question.texts, question.outside, LIST_ROOM));
+  else await judgePair(question, say);
 }
 
-/** Takes the module, once, and then questions. A report ends no other question. */
+/** Takes the module, once, and then questions. */
 onmessage = ({ data }) => {
   if (data.module) module = data.module;
-  else if (data.part === "report") postMessage({ number: data.number, part: data.part, answer: CALLS.report(data) });
+  else if (ASKED[data.part]) post(data.number, "asked", ASKED[data.part](data));
   else judge(data);
 };

@@ -2,7 +2,7 @@
 
 _twin_lathe() {
     local word=${COMP_WORDS[COMP_CWORD]} before=${COMP_WORDS[COMP_CWORD - 1]} command='' options='--explain --quiet' given
-    local commands='verify waits races trace run resume edit moves state zones branch make expand try prove help version'
+    local commands='verify waits races trace run resume edit moves state zones branch make expand plain try prove help version'
     for given in "${COMP_WORDS[@]:1:COMP_CWORD-1}"; do
         [[ -n $command || $given == -* || $given == try ]] || command=$given
     done
@@ -18,7 +18,7 @@ _twin_lathe() {
         trace) options+=' --blocks' ;;
         run | resume) options+=' --blocks --turret1 --turret2' ;;
         make) options+=' --turret1 --turret2' ;;
-        edit | zones | expand) ;;
+        edit | zones | expand | plain) ;;
         *) [[ $word == -* ]] || return ;;
     esac
     if [[ $word == -* ]]; then COMPREPLY=($(compgen -W "$options" -- "$word")); else COMPREPLY=($(compgen -f -- "$word")); fi

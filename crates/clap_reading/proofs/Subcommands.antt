@@ -1,6 +1,6 @@
--- The arguments of each subcommand, and how its reading ends. Three kinds: those of a pair (left and
--- right, and settings that may be left out), of one word, and of no word. A use is an argument with
--- the text that it was given. For TopWords.
+-- The arguments of each subcommand, and how its reading ends. Five kinds: those of a pair (left and
+-- right, and settings that may be left out), of a tape (and settings that may be left out), of a
+-- text of zones (and a pair that may be left out), of one word, and of no word. A use is an argument with the text that it was given. For TopWords.
 use Rattle.std.proofs.Common.{◌≡◌, ℕ, ◌+◌, ◌<◌, inl, inr, Bool, true, false, ◌&&◌, ◌||◌, not, cond, List, [], ◌∷◌, ◌++◌, map, length, Option, Some, None, is_some, refl, sym, ap, subst, ◌∙◌, arith, codes}
 use Rattle.std.proofs.Math.Bool.{or-true}
 use Rattle.std.specs.Prelude.{nat_eq}
@@ -17,7 +17,6 @@ use Rattle.clap_reading.specs.ClapReading.{command_from, command_in, names_of, t
 use Rattle.clap_reading.specs.Grammar.{further_rule, name_rule}
 use Rattle.command_words.specs.Listed.{OptionTextsView, command_given, command_of, takes_words, text_for, text_in, texts_for}
 use Rattle.command_words.specs.Table.{Listing, listing, pair_words, settings_word}
-use Rattle.command_words.specs.declared.table.Journal.{Journal}
 use Rattle.command_words.specs.declared.table.Task.{Task}
 use Rattle.command_words.specs.declared.command.Command.{Command}
 use Rattle.clap_reading.proofs.Readings.{check_of}
@@ -169,6 +168,21 @@ none_required (own ∷ options) rows = none_required options rows
 abbrev pub pair_ids : List Text
 pair_ids = pair_words ++ settings_word
 
+-- The words of a command of a tape: the tape and its settings.
+abbrev pub tape_ids : List Text
+tape_ids = codes "tape" ∷ settings_word
+
+-- The rules of a command of a tape, with these options.
+abbrev pub tape_rules : List Text → List Rule
+tape_rules options = name_at 1 (codes "tape") ∷ further_at 2 (codes "settings") ∷ option_rules options
+
+-- No option has the name of one of these words.
+pub record AreTapeNames (options : List Text) : Type 0 where
+  -- no option is called `tape`
+  pub tape : is_known options (codes "tape") ≡ false
+  -- no option is called `settings`
+  pub settings : is_known options (codes "settings") ≡ false
+
 -- The rules of a command of a pair, with these options.
 abbrev pub pair_rules : List Text → List Rule
 pair_rules options = name_at 1 (codes "left") ∷ name_at 2 (codes "right") ∷ further_at 3 (codes "settings") ∷ option_rules options
@@ -181,6 +195,23 @@ pub record ArePairNames (options : List Text) : Type 0 where
   pub right : is_known options (codes "right") ≡ false
   -- no option is called `settings`
   pub settings : is_known options (codes "settings") ≡ false
+
+-- The words of a command of zones: their text, and a pair of which all may be left out.
+abbrev pub zones_ids : List Text
+zones_ids = codes "zones" ∷ pair_ids
+
+-- The rules of a command of zones, with these options.
+abbrev pub zones_rules : List Text → List Rule
+zones_rules options =
+    name_at 1 (codes "zones") ∷ further_at 2 (codes "left") ∷ further_at 3 (codes "right") ∷ further_at 4 (codes "settings")
+    ∷ option_rules options
+
+-- No option has the name of one of these words.
+pub record AreZonesNames (options : List Text) : Type 0 where
+  -- no option is called `zones`
+  pub zones : is_known options (codes "zones") ≡ false
+  -- no option is called as a word of a pair
+  pub pair : ArePairNames options
 
 -- The one word of a command.
 abbrev pub one_id : Text → List Text
@@ -241,6 +272,90 @@ pair_arguments options free = record {
   few = omega arith;
   no_default = defaults_stay (pair_rules options) (refl, (refl, (refl, no_defaults options)));
   no_default_fault = defaults_pass (pair_rules options) (refl, (refl, (refl, no_defaults options)));
+}
+
+-- The next word of a tape has no option's name.
+tape_named : (options : List Text) → AreTapeNames options → (names : List Text) (id : Text) → slice_get tape_ids (length names) ≡ Some id → is_known options id ≡ false
+tape_named options free [] id e = as_id (λ id. is_known options id ≡ false) (codes "tape") id e free.tape
+tape_named options free (a ∷ []) id e = as_id (λ id. is_known options id ≡ false) (codes "settings") id e free.settings
+tape_named options free (a ∷ b ∷ names) id e = cc
+
+-- The next word of a tape was not given before.
+tape_fresh : (names : List Text) (id : Text) → slice_get tape_ids (length names) ≡ Some id → value_in id (zip tape_ids names) ≡ None
+tape_fresh [] id e = refl
+tape_fresh (a ∷ []) id e = as_id (λ id. value_in id (zip tape_ids (a ∷ [])) ≡ None) (codes "settings") id e refl
+tape_fresh (a ∷ b ∷ names) id e = cc
+
+-- The next word of a tape has its rule at its position.
+tape_at : (options names : List Text) (id : Text) → slice_get tape_ids (length names) ≡ Some id → RuleAt (tape_rules options) id (length names + 1)
+tape_at options [] id e = as_id (λ id. RuleAt (tape_rules options) id 1) (codes "tape") id e (record { rule = name_at 1 (codes "tape"); at = refl; same = refl; once = name_once 1 (codes "tape"); found = refl })
+tape_at options (a ∷ []) id e = as_id (λ id. RuleAt (tape_rules options) id 2) (codes "settings") id e (record { rule = further_at 2 (codes "settings"); at = refl; same = refl; once = further_once 2 (codes "settings"); found = refl })
+tape_at options (a ∷ b ∷ names) id e = cc
+
+-- The arguments of a command of a tape are as the walk needs them.
+pub tape_arguments : (options : List Text) → AreTapeNames options → Arguments (tape_rules options) tape_ids options
+tape_arguments options free = record {
+  at = tape_at options;
+  full = λ names e. rw e (by_index options (length names + 1));
+  fresh = tape_fresh;
+  named = tape_named options free;
+  option_long = by_long options;
+  option_id = λ id is. rw (
+    unknown_differs options (codes "tape") id free.tape is,
+    unknown_differs options (codes "settings") id free.settings is,
+  ) (by_id options id is);
+  no_long = by_no_long options;
+  no_short = by_short options;
+  once_at = λ position a found. once_found (at_position position) (tape_rules options) a (single options) found;
+  few = omega arith;
+  no_default = defaults_stay (tape_rules options) (refl, (refl, no_defaults options));
+  no_default_fault = defaults_pass (tape_rules options) (refl, (refl, no_defaults options));
+}
+
+-- The next word of a command of zones has no option's name.
+zones_named : (options : List Text) → AreZonesNames options → (names : List Text) (id : Text) → slice_get zones_ids (length names) ≡ Some id → is_known options id ≡ false
+zones_named options free [] id e = as_id (λ id. is_known options id ≡ false) (codes "zones") id e free.zones
+zones_named options free (a ∷ []) id e = as_id (λ id. is_known options id ≡ false) (codes "left") id e free.pair.left
+zones_named options free (a ∷ b ∷ []) id e = as_id (λ id. is_known options id ≡ false) (codes "right") id e free.pair.right
+zones_named options free (a ∷ b ∷ d ∷ []) id e = as_id (λ id. is_known options id ≡ false) (codes "settings") id e free.pair.settings
+zones_named options free (a ∷ b ∷ d ∷ f ∷ names) id e = cc
+
+-- The next word of a command of zones was not given before.
+zones_fresh : (names : List Text) (id : Text) → slice_get zones_ids (length names) ≡ Some id → value_in id (zip zones_ids names) ≡ None
+zones_fresh [] id e = refl
+zones_fresh (a ∷ []) id e = as_id (λ id. value_in id (zip zones_ids (a ∷ [])) ≡ None) (codes "left") id e refl
+zones_fresh (a ∷ b ∷ []) id e = as_id (λ id. value_in id (zip zones_ids (a ∷ b ∷ [])) ≡ None) (codes "right") id e refl
+zones_fresh (a ∷ b ∷ d ∷ []) id e = as_id (λ id. value_in id (zip zones_ids (a ∷ b ∷ d ∷ [])) ≡ None) (codes "settings") id e refl
+zones_fresh (a ∷ b ∷ d ∷ f ∷ names) id e = cc
+
+-- The next word of a command of zones has its rule at its position.
+zones_at : (options names : List Text) (id : Text) → slice_get zones_ids (length names) ≡ Some id → RuleAt (zones_rules options) id (length names + 1)
+zones_at options [] id e = as_id (λ id. RuleAt (zones_rules options) id 1) (codes "zones") id e (record { rule = name_at 1 (codes "zones"); at = refl; same = refl; once = name_once 1 (codes "zones"); found = refl })
+zones_at options (a ∷ []) id e = as_id (λ id. RuleAt (zones_rules options) id 2) (codes "left") id e (record { rule = further_at 2 (codes "left"); at = refl; same = refl; once = further_once 2 (codes "left"); found = refl })
+zones_at options (a ∷ b ∷ []) id e = as_id (λ id. RuleAt (zones_rules options) id 3) (codes "right") id e (record { rule = further_at 3 (codes "right"); at = refl; same = refl; once = further_once 3 (codes "right"); found = refl })
+zones_at options (a ∷ b ∷ d ∷ []) id e = as_id (λ id. RuleAt (zones_rules options) id 4) (codes "settings") id e (record { rule = further_at 4 (codes "settings"); at = refl; same = refl; once = further_once 4 (codes "settings"); found = refl })
+zones_at options (a ∷ b ∷ d ∷ f ∷ names) id e = cc
+
+-- The arguments of a command of zones are as the walk needs them.
+pub zones_arguments : (options : List Text) → AreZonesNames options → Arguments (zones_rules options) zones_ids options
+zones_arguments options free = record {
+  at = zones_at options;
+  full = λ names e. rw e (by_index options (length names + 1));
+  fresh = zones_fresh;
+  named = zones_named options free;
+  option_long = by_long options;
+  option_id = λ id is. rw (
+    unknown_differs options (codes "zones") id free.zones is,
+    unknown_differs options (codes "left") id free.pair.left is,
+    unknown_differs options (codes "right") id free.pair.right is,
+    unknown_differs options (codes "settings") id free.pair.settings is,
+  ) (by_id options id is);
+  no_long = by_no_long options;
+  no_short = by_short options;
+  once_at = λ position a found. once_found (at_position position) (zones_rules options) a (single options) found;
+  few = omega arith;
+  no_default = defaults_stay (zones_rules options) (refl, (refl, (refl, (refl, no_defaults options))));
+  no_default_fault = defaults_pass (zones_rules options) (refl, (refl, (refl, (refl, no_defaults options))));
 }
 
 -- The arguments of a command without words are as the walk needs them.
@@ -366,30 +481,30 @@ checked_as : (id : Text) (c : List Rule) (fault : Kinds) (rows uses_rows : List 
 checked_as id c fault rows uses_rows answer e f end = rw (e, f) end
 
 -- The row of a command of a pair.
-abbrev pub pair_row : Text → List Text → Journal → Task → Listing
-pair_row name options kept what = listing name pair_words settings_word options kept what
+abbrev pub pair_row : Text → List Text → Task → Listing
+pair_row name options what = listing name pair_words settings_word options what
 
 -- Each parse of a command of a pair ends with the listed command.
-pub pair_ends : (name : Text) (options : List Text) (kept : Journal) (what : Task) → ArePairNames options
-    → ((given : List Row) → command_in name given ≡ command_from given (pair_row name options kept what)) → Ends (pair_row name options kept what) (pair_rules options)
-pair_ends name options kept what free is fault rows [] marked (faulty bad many) = fails fault _ _ bad refl
-pair_ends name options kept what free is fault rows (a ∷ []) marked (faulty bad many) = fails fault _ _ bad refl
-pair_ends name options kept what free is fault rows (a ∷ b ∷ []) marked (faulty bad (inl many)) = absurd (omega (arith, many))
-pair_ends name options kept what free is fault rows (a ∷ b ∷ []) marked (faulty bad (inr twice)) = fails fault _ _ bad (rw twice refl)
-pair_ends name options kept what free is fault rows (a ∷ b ∷ d ∷ []) marked (faulty bad (inl many)) = absurd (omega (arith, many))
-pair_ends name options kept what free is fault rows (a ∷ b ∷ d ∷ []) marked (faulty bad (inr twice)) = fails fault _ _ bad (rw twice refl)
-pair_ends name options kept what free is fault rows (a ∷ b ∷ d ∷ e ∷ names) marked (faulty bad many) =
-    fails fault _ _ bad (longer (pair_row name options kept what) (a ∷ b ∷ d ∷ e ∷ names) marked (omega arith))
-pair_ends name options kept what free is fault rows [] marked (checked uses story f g) =
+pub pair_ends : (name : Text) (options : List Text) (what : Task) → ArePairNames options
+    → ((given : List Row) → command_in name given ≡ command_from given (pair_row name options what)) → Ends (pair_row name options what) (pair_rules options)
+pair_ends name options what free is fault rows [] marked (faulty bad many) = fails fault _ _ bad refl
+pair_ends name options what free is fault rows (a ∷ []) marked (faulty bad many) = fails fault _ _ bad refl
+pair_ends name options what free is fault rows (a ∷ b ∷ []) marked (faulty bad (inl many)) = absurd (omega (arith, many))
+pair_ends name options what free is fault rows (a ∷ b ∷ []) marked (faulty bad (inr twice)) = fails fault _ _ bad (rw twice refl)
+pair_ends name options what free is fault rows (a ∷ b ∷ d ∷ []) marked (faulty bad (inl many)) = absurd (omega (arith, many))
+pair_ends name options what free is fault rows (a ∷ b ∷ d ∷ []) marked (faulty bad (inr twice)) = fails fault _ _ bad (rw twice refl)
+pair_ends name options what free is fault rows (a ∷ b ∷ d ∷ e ∷ names) marked (faulty bad many) =
+    fails fault _ _ bad (longer (pair_row name options what) (a ∷ b ∷ d ∷ e ∷ names) marked (omega arith))
+pair_ends name options what free is fault rows [] marked (checked uses story f g) =
     checked_as name (pair_rules options) fault rows (map row_of_use uses) None f g (rw (given_name pair_ids options uses [] marked (codes "left") story free.left) refl)
-pair_ends name options kept what free is fault rows (a ∷ []) marked (checked uses story f g) =
+pair_ends name options what free is fault rows (a ∷ []) marked (checked uses story f g) =
     checked_as name (pair_rules options) fault rows (map row_of_use uses) None f g
     (rw (
       given_name pair_ids options uses (a ∷ []) marked (codes "left") story free.left,
       given_name pair_ids options uses (a ∷ []) marked (codes "right") story free.right,
     ) refl)
-pair_ends name options kept what free is fault rows (a ∷ b ∷ []) marked (checked uses story f g) =
-    let row = pair_row name options kept what in
+pair_ends name options what free is fault rows (a ∷ b ∷ []) marked (checked uses story f g) =
+    let row = pair_row name options what in
     let names = a ∷ b ∷ [] in
     let all : names_of (map row_of_use uses) row ≡ Some names
     = rw (
@@ -403,8 +518,8 @@ pair_ends name options kept what free is fault rows (a ∷ b ∷ []) marked (che
       given_name pair_ids options uses names marked (codes "right") story free.right,
       none_required options (map row_of_use uses),
     ) (reads_as row uses names marked story is all refl))
-pair_ends name options kept what free is fault rows (a ∷ b ∷ d ∷ []) marked (checked uses story f g) =
-    let row = pair_row name options kept what in
+pair_ends name options what free is fault rows (a ∷ b ∷ d ∷ []) marked (checked uses story f g) =
+    let row = pair_row name options what in
     let names = a ∷ b ∷ d ∷ [] in
     let all : names_of (map row_of_use uses) row ≡ Some names
     = rw (
@@ -418,43 +533,163 @@ pair_ends name options kept what free is fault rows (a ∷ b ∷ d ∷ []) marke
       given_name pair_ids options uses names marked (codes "right") story free.right,
       none_required options (map row_of_use uses),
     ) (reads_as row uses names marked story is all refl))
-pair_ends name options kept what free is fault rows (a ∷ b ∷ d ∷ e ∷ names) marked (checked uses story f g) = absurd (omega (arith, story.few_names))
+pair_ends name options what free is fault rows (a ∷ b ∷ d ∷ e ∷ names) marked (checked uses story f g) = absurd (omega (arith, story.few_names))
+
+-- The row of a command of a tape.
+abbrev pub tape_row : Text → List Text → Task → Listing
+tape_row name options what = listing name (codes "tape" ∷ []) settings_word options what
+
+-- Each parse of a command of a tape ends with the listed command.
+pub tape_ends : (name : Text) (options : List Text) (what : Task) → AreTapeNames options
+    → ((given : List Row) → command_in name given ≡ command_from given (tape_row name options what)) → Ends (tape_row name options what) (tape_rules options)
+tape_ends name options what free is fault rows [] marked (faulty bad many) = fails fault _ _ bad refl
+tape_ends name options what free is fault rows (a ∷ []) marked (faulty bad (inl many)) = absurd (omega (arith, many))
+tape_ends name options what free is fault rows (a ∷ []) marked (faulty bad (inr twice)) = fails fault _ _ bad (rw twice refl)
+tape_ends name options what free is fault rows (a ∷ b ∷ []) marked (faulty bad (inl many)) = absurd (omega (arith, many))
+tape_ends name options what free is fault rows (a ∷ b ∷ []) marked (faulty bad (inr twice)) = fails fault _ _ bad (rw twice refl)
+tape_ends name options what free is fault rows (a ∷ b ∷ d ∷ names) marked (faulty bad many) =
+    fails fault _ _ bad (longer (tape_row name options what) (a ∷ b ∷ d ∷ names) marked (omega arith))
+tape_ends name options what free is fault rows [] marked (checked uses story f g) =
+    checked_as name (tape_rules options) fault rows (map row_of_use uses) None f g (rw (given_name tape_ids options uses [] marked (codes "tape") story free.tape) refl)
+tape_ends name options what free is fault rows (a ∷ []) marked (checked uses story f g) =
+    let row = tape_row name options what in
+    let names = a ∷ [] in
+    let all : names_of (map row_of_use uses) row ≡ Some names
+    = rw (
+      first_name tape_ids options uses names marked (codes "tape") story free.tape,
+      first_name tape_ids options uses names marked (codes "settings") story free.settings,
+    ) refl in
+    checked_as name (tape_rules options) fault rows (map row_of_use uses) (listed_by row names marked) f g
+    (rw (
+      given_name tape_ids options uses names marked (codes "tape") story free.tape,
+      none_required options (map row_of_use uses),
+    ) (reads_as row uses names marked story is all refl))
+tape_ends name options what free is fault rows (a ∷ b ∷ []) marked (checked uses story f g) =
+    let row = tape_row name options what in
+    let names = a ∷ b ∷ [] in
+    let all : names_of (map row_of_use uses) row ≡ Some names
+    = rw (
+      first_name tape_ids options uses names marked (codes "tape") story free.tape,
+      first_name tape_ids options uses names marked (codes "settings") story free.settings,
+    ) refl in
+    checked_as name (tape_rules options) fault rows (map row_of_use uses) (listed_by row names marked) f g
+    (rw (
+      given_name tape_ids options uses names marked (codes "tape") story free.tape,
+      none_required options (map row_of_use uses),
+    ) (reads_as row uses names marked story is all refl))
+tape_ends name options what free is fault rows (a ∷ b ∷ d ∷ names) marked (checked uses story f g) = absurd (omega (arith, story.few_names))
+
+-- The row of a command of zones.
+abbrev pub zones_row : Text → List Text → Task → Listing
+zones_row name options what = listing name (codes "zones" ∷ []) (pair_words ++ settings_word) options what
+
+-- A parse of a command of zones that gave these names, the text of zones among them, ends with the
+-- listed command.
+zones_checked : (name : Text) (options : List Text) (what : Task) → AreZonesNames options
+    → ((given : List Row) → command_in name given ≡ command_from given (zones_row name options what))
+    → (fault : Kinds) (rows : List Row) (names : List Text) (marked : List Used) (uses : List Used)
+    → Story zones_ids options uses names marked → fault ≡ check_of name (zones_rules options) (map row_of_use uses) → rows ≡ map row_of_use uses
+    → names_of (map row_of_use uses) (zones_row name options what) ≡ Some names
+    → is_some (value_in (codes "zones") (zip zones_ids names)) ≡ true → takes_words (zones_row name options what) (length names) ≡ true
+    → cond (is_empty fault) (command_in name rows) None ≡ listed_by (zones_row name options what) names marked
+zones_checked name options what free is fault rows names marked uses story at_end all_rows all some many =
+    let row = zones_row name options what in
+    checked_as name (zones_rules options) fault rows (map row_of_use uses) (listed_by row names marked) at_end all_rows
+    (rw (
+      given_name zones_ids options uses names marked (codes "zones") story free.zones ∙ some,
+      none_required options (map row_of_use uses),
+    ) (reads_as row uses names marked story is all many))
+
+-- Each parse of a command of zones ends with the listed command.
+pub zones_ends : (name : Text) (options : List Text) (what : Task) → AreZonesNames options
+    → ((given : List Row) → command_in name given ≡ command_from given (zones_row name options what)) → Ends (zones_row name options what) (zones_rules options)
+zones_ends name options what free is fault rows [] marked (faulty bad many) = fails fault _ _ bad refl
+zones_ends name options what free is fault rows (a ∷ []) marked (faulty bad (inl many)) = absurd (omega (arith, many))
+zones_ends name options what free is fault rows (a ∷ []) marked (faulty bad (inr twice)) = fails fault _ _ bad (rw twice refl)
+zones_ends name options what free is fault rows (a ∷ b ∷ []) marked (faulty bad (inl many)) = absurd (omega (arith, many))
+zones_ends name options what free is fault rows (a ∷ b ∷ []) marked (faulty bad (inr twice)) = fails fault _ _ bad (rw twice refl)
+zones_ends name options what free is fault rows (a ∷ b ∷ d ∷ []) marked (faulty bad (inl many)) = absurd (omega (arith, many))
+zones_ends name options what free is fault rows (a ∷ b ∷ d ∷ []) marked (faulty bad (inr twice)) = fails fault _ _ bad (rw twice refl)
+zones_ends name options what free is fault rows (a ∷ b ∷ d ∷ e ∷ []) marked (faulty bad (inl many)) = absurd (omega (arith, many))
+zones_ends name options what free is fault rows (a ∷ b ∷ d ∷ e ∷ []) marked (faulty bad (inr twice)) = fails fault _ _ bad (rw twice refl)
+zones_ends name options what free is fault rows (a ∷ b ∷ d ∷ e ∷ f ∷ names) marked (faulty bad many) =
+    fails fault _ _ bad (longer (zones_row name options what) (a ∷ b ∷ d ∷ e ∷ f ∷ names) marked (omega arith))
+zones_ends name options what free is fault rows [] marked (checked uses story at_end all_rows) =
+    checked_as name (zones_rules options) fault rows (map row_of_use uses) None at_end all_rows
+    (rw (given_name zones_ids options uses [] marked (codes "zones") story free.zones) refl)
+zones_ends name options what free is fault rows (a ∷ []) marked (checked uses story at_end all_rows) =
+    let names = a ∷ [] in
+    zones_checked name options what free is fault rows names marked uses story at_end all_rows
+    (rw (
+      first_name zones_ids options uses names marked (codes "zones") story free.zones,
+      first_name zones_ids options uses names marked (codes "left") story free.pair.left,
+      first_name zones_ids options uses names marked (codes "right") story free.pair.right,
+      first_name zones_ids options uses names marked (codes "settings") story free.pair.settings,
+    ) refl) refl refl
+zones_ends name options what free is fault rows (a ∷ b ∷ []) marked (checked uses story at_end all_rows) =
+    let names = a ∷ b ∷ [] in
+    zones_checked name options what free is fault rows names marked uses story at_end all_rows
+    (rw (
+      first_name zones_ids options uses names marked (codes "zones") story free.zones,
+      first_name zones_ids options uses names marked (codes "left") story free.pair.left,
+      first_name zones_ids options uses names marked (codes "right") story free.pair.right,
+      first_name zones_ids options uses names marked (codes "settings") story free.pair.settings,
+    ) refl) refl refl
+zones_ends name options what free is fault rows (a ∷ b ∷ d ∷ []) marked (checked uses story at_end all_rows) =
+    let names = a ∷ b ∷ d ∷ [] in
+    zones_checked name options what free is fault rows names marked uses story at_end all_rows
+    (rw (
+      first_name zones_ids options uses names marked (codes "zones") story free.zones,
+      first_name zones_ids options uses names marked (codes "left") story free.pair.left,
+      first_name zones_ids options uses names marked (codes "right") story free.pair.right,
+      first_name zones_ids options uses names marked (codes "settings") story free.pair.settings,
+    ) refl) refl refl
+zones_ends name options what free is fault rows (a ∷ b ∷ d ∷ e ∷ []) marked (checked uses story at_end all_rows) =
+    let names = a ∷ b ∷ d ∷ e ∷ [] in
+    zones_checked name options what free is fault rows names marked uses story at_end all_rows
+    (rw (
+      first_name zones_ids options uses names marked (codes "zones") story free.zones,
+      first_name zones_ids options uses names marked (codes "left") story free.pair.left,
+      first_name zones_ids options uses names marked (codes "right") story free.pair.right,
+      first_name zones_ids options uses names marked (codes "settings") story free.pair.settings,
+    ) refl) refl refl
+zones_ends name options what free is fault rows (a ∷ b ∷ d ∷ e ∷ f ∷ names) marked (checked uses story at_end all_rows) = absurd (omega (arith, story.few_names))
 
 -- The row of a command without words.
-abbrev pub alone_row : Text → List Text → Journal → Task → Listing
-alone_row name options kept what = listing name [] [] options kept what
+abbrev pub alone_row : Text → List Text → Task → Listing
+alone_row name options what = listing name [] [] options what
 
 -- Each parse of a command without words ends with the listed command.
-pub alone_ends : (name : Text) (options : List Text) (kept : Journal) (what : Task)
-    → ((given : List Row) → command_in name given ≡ command_from given (alone_row name options kept what)) → Ends (alone_row name options kept what) (option_rules options)
-alone_ends name options kept what is fault rows [] marked (faulty bad (inl many)) = absurd (omega (arith, many))
-alone_ends name options kept what is fault rows [] marked (faulty bad (inr twice)) = fails fault _ _ bad (rw twice refl)
-alone_ends name options kept what is fault rows (a ∷ names) marked (faulty bad many) =
-    fails fault _ _ bad (longer (alone_row name options kept what) (a ∷ names) marked (omega arith))
-alone_ends name options kept what is fault rows [] marked (checked uses story f g) =
-    let row = alone_row name options kept what in
+pub alone_ends : (name : Text) (options : List Text) (what : Task)
+    → ((given : List Row) → command_in name given ≡ command_from given (alone_row name options what)) → Ends (alone_row name options what) (option_rules options)
+alone_ends name options what is fault rows [] marked (faulty bad (inl many)) = absurd (omega (arith, many))
+alone_ends name options what is fault rows [] marked (faulty bad (inr twice)) = fails fault _ _ bad (rw twice refl)
+alone_ends name options what is fault rows (a ∷ names) marked (faulty bad many) =
+    fails fault _ _ bad (longer (alone_row name options what) (a ∷ names) marked (omega arith))
+alone_ends name options what is fault rows [] marked (checked uses story f g) =
+    let row = alone_row name options what in
     checked_as name (option_rules options) fault rows (map row_of_use uses) (listed_by row [] marked) f g
     (rw (none_required options (map row_of_use uses)) (reads_as row uses [] marked story is refl refl))
-alone_ends name options kept what is fault rows (a ∷ names) marked (checked uses story f g) = absurd (omega (arith, story.few_names))
+alone_ends name options what is fault rows (a ∷ names) marked (checked uses story f g) = absurd (omega (arith, story.few_names))
 
 -- The row of a command of one word with this name.
-abbrev pub one_row : Text → Text → List Text → Journal → Task → Listing
-one_row name id options kept what = listing name (one_id id) [] options kept what
+abbrev pub one_row : Text → Text → List Text → Task → Listing
+one_row name id options what = listing name (one_id id) [] options what
 
 -- Each parse of a command of one word ends with the listed command.
-pub one_ends : (name id : Text) (options : List Text) (kept : Journal) (what : Task) → IsWordName options id
-    → ((given : List Row) → command_in name given ≡ command_from given (one_row name id options kept what)) → Ends (one_row name id options kept what) (one_rules id options)
-one_ends name id options kept what word is fault rows [] marked (faulty bad many) = fails fault _ _ bad refl
-one_ends name id options kept what word is fault rows (a ∷ []) marked (faulty bad (inl many)) = absurd (omega (arith, many))
-one_ends name id options kept what word is fault rows (a ∷ []) marked (faulty bad (inr twice)) = fails fault _ _ bad (rw twice refl)
-one_ends name id options kept what word is fault rows (a ∷ b ∷ names) marked (faulty bad many) =
-    fails fault _ _ bad (longer (one_row name id options kept what) (a ∷ b ∷ names) marked (omega arith))
-one_ends name id options kept what word is fault rows [] marked (checked uses story f g) =
+pub one_ends : (name id : Text) (options : List Text) (what : Task) → IsWordName options id
+    → ((given : List Row) → command_in name given ≡ command_from given (one_row name id options what)) → Ends (one_row name id options what) (one_rules id options)
+one_ends name id options what word is fault rows [] marked (faulty bad many) = fails fault _ _ bad refl
+one_ends name id options what word is fault rows (a ∷ []) marked (faulty bad (inl many)) = absurd (omega (arith, many))
+one_ends name id options what word is fault rows (a ∷ []) marked (faulty bad (inr twice)) = fails fault _ _ bad (rw twice refl)
+one_ends name id options what word is fault rows (a ∷ b ∷ names) marked (faulty bad many) =
+    fails fault _ _ bad (longer (one_row name id options what) (a ∷ b ∷ names) marked (omega arith))
+one_ends name id options what word is fault rows [] marked (checked uses story f g) =
     checked_as name (one_rules id options) fault rows (map row_of_use uses) None f g (rw (given_name (one_id id) options uses [] marked id story word.free) refl)
-one_ends name id options kept what word is fault rows (a ∷ []) marked (checked uses story f g) =
-    let row = one_row name id options kept what in
+one_ends name id options what word is fault rows (a ∷ []) marked (checked uses story f g) =
+    let row = one_row name id options what in
     let all : names_of (map row_of_use uses) row ≡ Some (a ∷ []) = rw (first_name (one_id id) options uses (a ∷ []) marked id story word.free, word.own) refl in
     checked_as name (one_rules id options) fault rows (map row_of_use uses) (listed_by row (a ∷ []) marked) f g
     (rw (given_name (one_id id) options uses (a ∷ []) marked id story word.free, word.own, none_required options (map row_of_use uses))
     (reads_as row uses (a ∷ []) marked story is all refl))
-one_ends name id options kept what word is fault rows (a ∷ b ∷ names) marked (checked uses story f g) = absurd (omega (arith, story.few_names))
+one_ends name id options what word is fault rows (a ∷ b ∷ names) marked (checked uses story f g) = absurd (omega (arith, story.few_names))

@@ -16,14 +16,12 @@ use Rattle.clap_reading.specs.Grammar.{program_app}
 use Rattle.command_words.specs.Listed.{Given, command_behind, command_given, given, listed_command}
 use Rattle.command_words.specs.Table.{Listing, block_options, listings, outside_options, row_in, run_options, turret_options}
 use Rattle.command_words.specs.declared.command.Command.{Command}
-use Rattle.command_words.specs.declared.table.Journal.{Journal}
-use Rattle.command_words.specs.declared.table.Journal.TheVariants as journal
 use Rattle.command_words.specs.declared.table.Task.{Task}
 use Rattle.command_words.specs.declared.table.Task.TheVariants as task
 use Rattle.clap_reading.proofs.Readings.{check_of, reads_all}
 use Rattle.clap_reading.proofs.Steps.{at_rest, bundle_fails, first_some, going, leaf, or_else-none}
 use Rattle.clap_reading.proofs.Stories.{Outcome, begun}
-use Rattle.clap_reading.proofs.Subcommands.{ArePairNames, Ends, IsWordName, alone_arguments, alone_ends, alone_row, ids_of, one_arguments, one_ends, one_row, one_rules, option_rules, pair_arguments, pair_ends, pair_row, pair_rules}
+use Rattle.clap_reading.proofs.Subcommands.{ArePairNames, AreTapeNames, AreZonesNames, Ends, IsWordName, alone_arguments, alone_ends, alone_row, ids_of, one_arguments, one_ends, one_row, one_rules, option_rules, pair_arguments, pair_ends, pair_row, pair_rules, tape_arguments, tape_ends, tape_row, tape_rules, zones_arguments, zones_ends, zones_row, zones_rules}
 use Rattle.clap_reading.proofs.Uses.{same_text}
 use Rattle.clap_reading.proofs.Walks.{AllTexts, Arguments, end_of, rest_fault}
 use Rattle.clap_reading.proofs.WordKinds.{WordKind, dashes, kind_of_word, listed, long, name, short}
@@ -45,9 +43,10 @@ built_program = record {
   subs = leaf (codes "verify") (pair_rules []) ∷ leaf (codes "waits") (pair_rules outside_options) ∷ leaf (codes "races") (pair_rules [])
       ∷ leaf (codes "trace") (pair_rules block_options) ∷ leaf (codes "run") (pair_rules run_options) ∷ leaf (codes "resume") (option_rules run_options)
       ∷ leaf (codes "edit") (one_rules (codes "edits") [])
-      ∷ leaf (codes "moves") (option_rules []) ∷ leaf (codes "state") (option_rules []) ∷ leaf (codes "zones") (one_rules (codes "zones") [])
+      ∷ leaf (codes "moves") (option_rules []) ∷ leaf (codes "state") (option_rules []) ∷ leaf (codes "zones") (zones_rules [])
       ∷ leaf (codes "branch") (one_rules (codes "meetings") []) ∷ leaf (codes "make") (one_rules (codes "number") turret_options)
-      ∷ leaf (codes "expand") (one_rules (codes "tape") []) ∷ [];
+      ∷ leaf (codes "expand") (one_rules (codes "tape") [])
+      ∷ leaf (codes "plain") (tape_rules []) ∷ [];
 }
 
 -- The names that the first word may be.
@@ -129,7 +128,7 @@ IsUnknown word (row ∷ rows) = (bytes_eq row.name word ≡ false) × IsUnknown 
 -- An unknown word meets no subcommand.
 meets_none : (word : Text) → IsUnknown word listings → subcommand_met names_top idle word ≡ None
 unfolding listings
-meets_none word u = rw (u.0, u.1.0, u.1.1.0, u.1.1.1.0, u.1.1.1.1.0, u.1.1.1.1.1.0, u.1.1.1.1.1.1.0, u.1.1.1.1.1.1.1.0, u.1.1.1.1.1.1.1.1.0, u.1.1.1.1.1.1.1.1.1.0, u.1.1.1.1.1.1.1.1.1.1.0, u.1.1.1.1.1.1.1.1.1.1.1.0, u.1.1.1.1.1.1.1.1.1.1.1.1.0) refl
+meets_none word u = rw (u.0, u.1.0, u.1.1.0, u.1.1.1.0, u.1.1.1.1.0, u.1.1.1.1.1.0, u.1.1.1.1.1.1.0, u.1.1.1.1.1.1.1.0, u.1.1.1.1.1.1.1.1.0, u.1.1.1.1.1.1.1.1.1.0, u.1.1.1.1.1.1.1.1.1.1.0, u.1.1.1.1.1.1.1.1.1.1.1.0, u.1.1.1.1.1.1.1.1.1.1.1.1.0, u.1.1.1.1.1.1.1.1.1.1.1.1.1.0) refl
 
 -- An unknown first word is a fault, unless it is `--`.
 unknown_turn_fails : (word : Text) → subcommand_met names_top idle word ≡ None → WordKind [] word → bytes_eq word (codes "--") ≡ false
@@ -232,53 +231,68 @@ abbrev IsRowOf : Text → Listing → Type 0
 IsRowOf called row = (given : List Row) → command_in called given ≡ command_from given row
 
 -- A row of a pair is known.
-pair_is : (called : Text) (options : List Text) (kept : Journal) (what : Task) → ArePairNames options → IsMet called (pair_rules options)
-    → IsRowOf called (pair_row called options kept what) → IsKnown (pair_row called options kept what)
-pair_is called options kept what free met is rest texts = known called (pair_rules options) rest met.first met.none met.found
-    ∙ subcommand_is (pair_row called options kept what) (pair_rules options) (pair_ends called options kept what free is) (pair_arguments options free) rest texts
+pair_is : (called : Text) (options : List Text) (what : Task) → ArePairNames options → IsMet called (pair_rules options)
+    → IsRowOf called (pair_row called options what) → IsKnown (pair_row called options what)
+pair_is called options what free met is rest texts = known called (pair_rules options) rest met.first met.none met.found
+    ∙ subcommand_is (pair_row called options what) (pair_rules options) (pair_ends called options what free is) (pair_arguments options free) rest texts
+
+-- A row of a tape is known.
+tape_is : (called : Text) (options : List Text) (what : Task) → AreTapeNames options → IsMet called (tape_rules options)
+    → IsRowOf called (tape_row called options what) → IsKnown (tape_row called options what)
+tape_is called options what free met is rest texts = known called (tape_rules options) rest met.first met.none met.found
+    ∙ subcommand_is (tape_row called options what) (tape_rules options) (tape_ends called options what free is) (tape_arguments options free) rest texts
+
+-- A row of zones is known.
+zones_is : (called : Text) (options : List Text) (what : Task) → AreZonesNames options → IsMet called (zones_rules options)
+    → IsRowOf called (zones_row called options what) → IsKnown (zones_row called options what)
+zones_is called options what free met is rest texts = known called (zones_rules options) rest met.first met.none met.found
+    ∙ subcommand_is (zones_row called options what) (zones_rules options) (zones_ends called options what free is) (zones_arguments options free) rest texts
 
 -- A row without words is known.
-alone_is : (called : Text) (options : List Text) (kept : Journal) (what : Task) → IsMet called (option_rules options)
-    → IsRowOf called (alone_row called options kept what) → IsKnown (alone_row called options kept what)
-alone_is called options kept what met is rest texts = known called (option_rules options) rest met.first met.none met.found
-    ∙ subcommand_is (alone_row called options kept what) (option_rules options) (alone_ends called options kept what is) (alone_arguments options) rest texts
+alone_is : (called : Text) (options : List Text) (what : Task) → IsMet called (option_rules options)
+    → IsRowOf called (alone_row called options what) → IsKnown (alone_row called options what)
+alone_is called options what met is rest texts = known called (option_rules options) rest met.first met.none met.found
+    ∙ subcommand_is (alone_row called options what) (option_rules options) (alone_ends called options what is) (alone_arguments options) rest texts
 
 -- A row of one word is known.
-one_is : (called id : Text) (options : List Text) (kept : Journal) (what : Task) → IsWordName options id → IsMet called (one_rules id options)
-    → IsRowOf called (one_row called id options kept what) → IsKnown (one_row called id options kept what)
-one_is called id options kept what word met is rest texts = known called (one_rules id options) rest met.first met.none met.found
-    ∙ subcommand_is (one_row called id options kept what) (one_rules id options) (one_ends called id options kept what word is) (one_arguments options id word) rest texts
+one_is : (called id : Text) (options : List Text) (what : Task) → IsWordName options id → IsMet called (one_rules id options)
+    → IsRowOf called (one_row called id options what) → IsKnown (one_row called id options what)
+one_is called id options what word met is rest texts = known called (one_rules id options) rest met.first met.none met.found
+    ∙ subcommand_is (one_row called id options what) (one_rules id options) (one_ends called id options what word is) (one_arguments options id word) rest texts
 
 -- All rows are known. A further one is a line here.
 all_known : AreKnown listings
 unfolding listings command_in walked
 all_known = (
-  pair_is (codes "verify") [] journal.None task.Verify (record { left = refl; right = refl; settings = refl }) (record { first = refl; none = refl; found = refl }) (λ given. refl),
+  pair_is (codes "verify") [] task.Verify (record { left = refl; right = refl; settings = refl }) (record { first = refl; none = refl; found = refl }) (λ given. refl),
   (
-    pair_is (codes "waits") outside_options journal.None task.Waits (record { left = refl; right = refl; settings = refl }) (record { first = refl; none = refl; found = refl }) (λ given. refl),
+    pair_is (codes "waits") outside_options task.Waits (record { left = refl; right = refl; settings = refl }) (record { first = refl; none = refl; found = refl }) (λ given. refl),
     (
-      pair_is (codes "races") [] journal.None task.Races (record { left = refl; right = refl; settings = refl }) (record { first = refl; none = refl; found = refl }) (λ given. refl),
+      pair_is (codes "races") [] task.Races (record { left = refl; right = refl; settings = refl }) (record { first = refl; none = refl; found = refl }) (λ given. refl),
       (
-        pair_is (codes "trace") block_options journal.None task.Trace (record { left = refl; right = refl; settings = refl }) (record { first = refl; none = refl; found = refl }) (λ given. refl),
+        pair_is (codes "trace") block_options task.Trace (record { left = refl; right = refl; settings = refl }) (record { first = refl; none = refl; found = refl }) (λ given. refl),
         (
-          pair_is (codes "run") run_options journal.Write task.Run (record { left = refl; right = refl; settings = refl }) (record { first = refl; none = refl; found = refl }) (λ given. refl),
+          pair_is (codes "run") run_options task.Run (record { left = refl; right = refl; settings = refl }) (record { first = refl; none = refl; found = refl }) (λ given. refl),
           (
-            alone_is (codes "resume") run_options journal.Write task.Resume (record { first = refl; none = refl; found = refl }) (λ given. refl),
+            alone_is (codes "resume") run_options task.Resume (record { first = refl; none = refl; found = refl }) (λ given. refl),
             (
-              one_is (codes "edit") (codes "edits") [] journal.Write task.Edit (record { own = refl; free = refl }) (record { first = refl; none = refl; found = refl }) (λ given. refl),
+              one_is (codes "edit") (codes "edits") [] task.Edit (record { own = refl; free = refl }) (record { first = refl; none = refl; found = refl }) (λ given. refl),
               (
-                alone_is (codes "moves") [] journal.Look task.Moves (record { first = refl; none = refl; found = refl }) (λ given. refl),
+                alone_is (codes "moves") [] task.Moves (record { first = refl; none = refl; found = refl }) (λ given. refl),
                 (
-                  alone_is (codes "state") [] journal.Look task.State (record { first = refl; none = refl; found = refl }) (λ given. refl),
+                  alone_is (codes "state") [] task.State (record { first = refl; none = refl; found = refl }) (λ given. refl),
                   (
-                    one_is (codes "zones") (codes "zones") [] journal.Look task.Zones (record { own = refl; free = refl }) (record { first = refl; none = refl; found = refl }) (λ given. refl),
+                    zones_is (codes "zones") [] task.Zones (record { zones = refl; pair = record { left = refl; right = refl; settings = refl } }) (record { first = refl; none = refl; found = refl }) (λ given. refl),
                     (
-                      one_is (codes "branch") (codes "meetings") [] journal.Look task.Branch (record { own = refl; free = refl }) (record { first = refl; none = refl; found = refl }) (λ given. refl),
+                      one_is (codes "branch") (codes "meetings") [] task.Branch (record { own = refl; free = refl }) (record { first = refl; none = refl; found = refl }) (λ given. refl),
                       (
-                        one_is (codes "make") (codes "number") turret_options journal.Write task.Make (record { own = refl; free = refl }) (record { first = refl; none = refl; found = refl }) (λ given. refl),
+                        one_is (codes "make") (codes "number") turret_options task.Make (record { own = refl; free = refl }) (record { first = refl; none = refl; found = refl }) (λ given. refl),
                         (
-                          one_is (codes "expand") (codes "tape") [] journal.None task.Expand (record { own = refl; free = refl }) (record { first = refl; none = refl; found = refl }) (λ given. refl),
-                          tt,
+                          one_is (codes "expand") (codes "tape") [] task.Expand (record { own = refl; free = refl }) (record { first = refl; none = refl; found = refl }) (λ given. refl),
+                          (
+                            tape_is (codes "plain") [] task.Plain (record { tape = refl; settings = refl }) (record { first = refl; none = refl; found = refl }) (λ given. refl),
+                            tt,
+                          ),
                         ),
                       ),
                     ),

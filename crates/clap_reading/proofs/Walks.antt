@@ -92,8 +92,8 @@ pub record Arguments (c : List Rule) (ids options : List Text) : Type 0 where
   pub no_short : (x : ℕ) → arg_by_short c x ≡ None
   -- No position takes several texts.
   pub once_at : (position : ℕ) (a : Rule) → arg_by_index c position ≡ Some a → takes_several a ≡ false
-  -- There are three words at most.
-  pub few : length ids ≤ 3
+  -- There are four words at most.
+  pub few : length ids ≤ 4
   -- No argument has a default.
   pub no_default : (rows : List Row) → fold with_default rows c ≡ rows
   -- No argument has a fault of a default.

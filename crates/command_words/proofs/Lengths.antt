@@ -6,10 +6,11 @@ use Rattle.command_words.specs.declared.command.TurretFiles.{TurretFiles}
 use Rattle.command_words.specs.declared.making.Limits.{Limits}
 use Rattle.command_words.specs.declared.table.Task.{Task}
 
--- Four words and more give no command.
-pub too_many : (what : Task) (words : List Text) (limits : Limits) (files : TurretFiles) → 3 < length words → command_with what words limits files ≡ None
+-- Five words and more give no command.
+pub too_many : (what : Task) (words : List Text) (limits : Limits) (files : TurretFiles) → 4 < length words → command_with what words limits files ≡ None
 too_many what [] limits files many = absurd (omega (arith, many))
 too_many what (a ∷ []) limits files many = absurd (omega (arith, many))
 too_many what (a ∷ b ∷ []) limits files many = absurd (omega (arith, many))
 too_many what (a ∷ b ∷ c ∷ []) limits files many = absurd (omega (arith, many))
-too_many what (a ∷ b ∷ c ∷ d ∷ words) limits files many = refl
+too_many what (a ∷ b ∷ c ∷ d ∷ []) limits files many = absurd (omega (arith, many))
+too_many what (a ∷ b ∷ c ∷ d ∷ e ∷ words) limits files many = refl

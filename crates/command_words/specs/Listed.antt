@@ -7,6 +7,8 @@ use Rattle.command_words.specs.Number.{number_of}
 use Rattle.command_words.specs.Table.{Listing, Text, row_of, takes_option}
 use Rattle.command_words.specs.declared.command.Command.{Command}
 use Rattle.command_words.specs.declared.command.Command.TheVariants as command
+use Rattle.command_words.specs.declared.journal.Journal.{Journal}
+use Rattle.command_words.specs.declared.journal.Journal.TheVariants as journal
 use Rattle.command_words.specs.declared.command.ProgramRange.{ProgramRange}
 use Rattle.command_words.specs.declared.command.TurretFiles.{TurretFiles}
 use Rattle.command_words.specs.declared.making.Limits.{Limits}
@@ -167,17 +169,36 @@ abbrev pub word_command : Task → Text → TurretFiles → Option Command
 word_command task.Edit edits files = Some (command.Edit edits)
 word_command task.Zones zones files = Some (command.Zones zones)
 word_command task.Expand tape files = Some (command.Expand tape)
+word_command task.Plain tape files = Some (command.Plain tape None)
 word_command task.Branch meetings files = option_map command.Branch (number_of 0 MOST_RECORDS meetings)
 word_command task.Make number files = option_map (λ n. command.Make n files) (number_of 0 LAST_MADE number)
 word_command _ word files = None
 
--- the command of a task that has the names of a pair
+-- the command of a tape and its settings; a third word is too many
+abbrev pub tape_command : Text → Text → Option Text → Option Command
+tape_command tape settings None = Some (command.Plain tape (Some settings))
+tape_command tape settings (Some third) = None
+
+-- the command of a text of zones and a pair of tapes without settings; one tape alone is too few
+abbrev pub zones_command : Text → Text → Option Text → Option Command
+zones_command zones left None = None
+zones_command zones left (Some right) = Some (command.ZonesOf zones left right None)
+
+-- the command of a task that has a word before the names of a pair and its settings
+abbrev pub long_command : Task → Text → PairNames → Option Command
+long_command task.Zones zones pair = Some (command.ZonesOf zones pair.left pair.right pair.settings)
+long_command _ word pair = None
+
+-- the command of a task that has two or three words: those of a pair, a tape and its settings, or a
+-- text of zones and a pair without settings
 abbrev pub pair_command : Task → PairNames → Limits → TurretFiles → Option Command
 pair_command task.Verify pair limits files = Some (command.Verify pair.left pair.right pair.settings)
 pair_command task.Trace pair limits files = Some (command.Trace pair.left pair.right pair.settings limits.blocks)
 pair_command task.Waits pair limits files = Some (command.Waits pair.left pair.right pair.settings limits.outside)
 pair_command task.Races pair limits files = Some (command.Races pair.left pair.right pair.settings)
 pair_command task.Run pair limits files = Some (command.Run pair.left pair.right pair.settings limits.blocks files)
+pair_command task.Plain pair limits files = tape_command pair.left pair.right pair.settings
+pair_command task.Zones pair limits files = zones_command pair.left pair.right pair.settings
 pair_command _ pair limits files = None
 
 -- the command that a task makes of its words, by how many there are
@@ -188,6 +209,8 @@ command_with what (left ∷ right ∷ []) limits files =
     pair_command what (record { left = left; right = right; settings = None }) limits files
 command_with what (left ∷ right ∷ settings ∷ []) limits files =
     pair_command what (record { left = left; right = right; settings = Some settings }) limits files
+command_with what (word ∷ left ∷ right ∷ settings ∷ []) limits files =
+    long_command what word (record { left = left; right = right; settings = Some settings })
 command_with what words limits files = None
 
 -- the command that a task makes of its words and of the texts of the options
@@ -261,9 +284,34 @@ files_in (command.Edit edits) = None
 files_in command.Moves = None
 files_in command.State = None
 files_in (command.Zones zones) = None
+files_in (command.ZonesOf zones left right settings) = None
 files_in (command.Branch meetings) = None
 files_in (command.Make number files) = Some files
 files_in (command.Expand tape) = None
+files_in (command.Plain tape settings) = None
+
+-- what a command does with the journal of a run
+abbrev pub journal_use : Command → Journal
+journal_use (command.Verify left right settings) = journal.None
+journal_use (command.Waits left right settings outside) = journal.None
+journal_use (command.Races left right settings) = journal.None
+journal_use (command.Trace left right settings blocks) = journal.None
+journal_use (command.Run left right settings blocks files) = journal.Write
+journal_use (command.Resume blocks files) = journal.Write
+journal_use (command.Edit edits) = journal.Write
+journal_use command.Moves = journal.Look
+journal_use command.State = journal.Look
+journal_use (command.Zones zones) = journal.Look
+journal_use (command.ZonesOf zones left right settings) = journal.None
+journal_use (command.Branch meetings) = journal.Look
+journal_use (command.Make number files) = journal.Write
+journal_use (command.Expand tape) = journal.None
+journal_use (command.Plain tape settings) = journal.None
+
+-- what a program that was asked for this does with the journal: nothing, if its words are no command
+abbrev pub journal_of : Option Command → Journal
+journal_of None = journal.None
+journal_of (Some asked) = journal_use asked
 
 -- the command of the words: the first names the row, and the row says how the others are read
 unfoldable pub listed_command : List Text → Option Command

@@ -1,20 +1,18 @@
 -- The commands of the program, as one list of rows. What the words after a command's name mean is
 -- in Listed. Src/table.rt has the same rows, and a further command is a row in both.
-use Rattle.std.specs.Prelude.{ℕ, Bool, true, ◌&&◌, not, List, [], ◌∷◌, map, find, Option, Some, None, codes}
+use Rattle.std.specs.Prelude.{ℕ, Bool, true, ◌&&◌, not, List, [], ◌∷◌, ◌++◌, map, find, Option, codes}
 use Rattle.std.specs.List.{list_any}
 use Rattle.std.specs.Str.{bytes_eq}
-use Rattle.command_words.specs.declared.table.Journal.{Journal}
-use Rattle.command_words.specs.declared.table.Journal.TheVariants as journal
 use Rattle.command_words.specs.declared.table.Row.{Row}
 use Rattle.command_words.specs.declared.table.Task.{Task}
-use Rattle.command_words.specs.declared.table.Task.TheVariants.{Verify, Waits, Races, Trace, Run, Resume, Edit, Moves, State, Zones, Branch, Make, Expand}
+use Rattle.command_words.specs.declared.table.Task.TheVariants.{Verify, Waits, Races, Trace, Run, Resume, Edit, Moves, State, Zones, Branch, Make, Expand, Plain}
 
 -- a word, or a part of one: its bytes
 abbrev pub Text : Type 0
 Text = List ℕ
 
 -- a command: the word that it begins with, what its words are called and which of them may be left
--- out, which options it takes, what it does with the journal, and what it asks for
+-- out, which options it takes, and what it asks for
 pub record Listing : Type 0 where
   -- the word that the command begins with
   pub name : Text
@@ -24,15 +22,13 @@ pub record Listing : Type 0 where
   pub further : List Text
   -- the options that the command takes, without the dashes
   pub options : List Text
-  -- what the command does with the journal
-  pub journal : Journal
   -- what the command asks for
   pub task : Task
 
--- the row of a name, words, words that may be left out, options, a use of the journal and a task
-abbrev pub listing : Text → List Text → List Text → List Text → Journal → Task → Listing
-listing name words further options journal task =
-    record { name = name; words = words; further = further; options = options; journal = journal; task = task }
+-- the row of a name, words, words that may be left out, options and a task
+abbrev pub listing : Text → List Text → List Text → List Text → Task → Listing
+listing name words further options task =
+    record { name = name; words = words; further = further; options = options; task = task }
 
 -- the words that a command of a pair must have: the two tapes
 abbrev pub pair_words : List Text
@@ -61,25 +57,26 @@ run_options = codes "blocks" ∷ turret_options
 -- all commands, in the order of the code's table
 unfoldable pub listings : List Listing
 listings =
-    listing (codes "verify") pair_words settings_word [] journal.None Verify
-    ∷ listing (codes "waits") pair_words settings_word outside_options journal.None Waits
-    ∷ listing (codes "races") pair_words settings_word [] journal.None Races
-    ∷ listing (codes "trace") pair_words settings_word block_options journal.None Trace
-    ∷ listing (codes "run") pair_words settings_word run_options journal.Write Run
-    ∷ listing (codes "resume") [] [] run_options journal.Write Resume
-    ∷ listing (codes "edit") (codes "edits" ∷ []) [] [] journal.Write Edit
-    ∷ listing (codes "moves") [] [] [] journal.Look Moves
-    ∷ listing (codes "state") [] [] [] journal.Look State
-    ∷ listing (codes "zones") (codes "zones" ∷ []) [] [] journal.Look Zones
-    ∷ listing (codes "branch") (codes "meetings" ∷ []) [] [] journal.Look Branch
-    ∷ listing (codes "make") (codes "number" ∷ []) [] turret_options journal.Write Make
-    ∷ listing (codes "expand") (codes "tape" ∷ []) [] [] journal.None Expand ∷ []
+    listing (codes "verify") pair_words settings_word [] Verify
+    ∷ listing (codes "waits") pair_words settings_word outside_options Waits
+    ∷ listing (codes "races") pair_words settings_word [] Races
+    ∷ listing (codes "trace") pair_words settings_word block_options Trace
+    ∷ listing (codes "run") pair_words settings_word run_options Run
+    ∷ listing (codes "resume") [] [] run_options Resume
+    ∷ listing (codes "edit") (codes "edits" ∷ []) [] [] Edit
+    ∷ listing (codes "moves") [] [] [] Moves
+    ∷ listing (codes "state") [] [] [] State
+    ∷ listing (codes "zones") (codes "zones" ∷ []) (pair_words ++ settings_word) [] Zones
+    ∷ listing (codes "branch") (codes "meetings" ∷ []) [] [] Branch
+    ∷ listing (codes "make") (codes "number" ∷ []) [] turret_options Make
+    ∷ listing (codes "expand") (codes "tape" ∷ []) [] [] Expand
+    ∷ listing (codes "plain") (codes "tape" ∷ []) settings_word [] Plain ∷ []
 
 -- a row of the code, as clauses see it
 abbrev pub row_seen : Row → Listing
 row_seen row =
     listing row.name.now (map (λ word. word.now) row.words.now) (map (λ word. word.now) row.further.now)
-    (map (λ id. id.now) row.options.now) row.journal row.task
+    (map (λ id. id.now) row.options.now) row.task
 
 -- whether a row takes the option
 abbrev pub takes_option : Listing → Text → Bool
@@ -92,16 +89,6 @@ row_in rows name = find (λ row. bytes_eq row.name name) rows
 -- the row of the command that a word names, if it names one
 abbrev pub row_of : Text → Option Listing
 row_of name = row_in listings name
-
--- what the command of a row does with the journal; nothing if there is no row
-abbrev pub journal_in : Option Listing → Journal
-journal_in None = journal.None
-journal_in (Some row) = row.journal
-
--- what the command that the words name does with the journal; nothing if they name none
-abbrev pub journal_of : List Text → Journal
-journal_of [] = journal.None
-journal_of (name ∷ rest) = journal_in (row_of name)
 
 -- whether no later command has the name of an earlier one
 abbrev pub names_stand_once : List Listing → Bool

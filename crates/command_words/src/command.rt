@@ -2,6 +2,7 @@
 //! command is a variant here and a row in table.rt.
 ghost use Rattle.std.specs.Prelude.{◌≡◌, ℕ, List, IfOk, option_map, string_bytes};
 
+use crate::journal::Journal;
 use std::alloc::{AllocError, Global};
 use std::marker::Model;
 
@@ -87,16 +88,21 @@ pub enum Command {
     State,
     /// Judge by these zones where both turrets of the run in the journal may come to one place.
     Zones(Name),
+    /// Judge by these zones, which are named first, where both turrets of a pair of tapes under
+    /// settings may come to one place in the run whose paths take turns.
+    ZonesOf(Name, Name, Name, Option<Name>),
     /// Write the run in the journal up to its meeting of this number into a second journal.
     Branch(u32),
     /// Make the pair of tapes of this number and run it.
     Make(u32, TurretFiles),
     /// Write out the roughing cycles of a tape as plain blocks.
     Expand(Name),
+    /// Write out a shop's tape under settings in the language that the control runs.
+    Plain(Name, Option<Name>),
 }
 
 impl Command {
-    ghost use Rattle.command_words.specs.Listed.{files_in};
+    ghost use Rattle.command_words.specs.Listed.{files_in, journal_use};
 
     /// The files of the turrets, if the command is one that takes any.
     pub fn turret_files(&self) -> Option<&TurretFiles>
@@ -114,8 +120,33 @@ impl Command {
             Command::Moves => None,
             Command::State => None,
             Command::Zones(_) => None,
+            Command::ZonesOf(_, _, _, _) => None,
             Command::Branch(_) => None,
             Command::Expand(_) => None,
+            Command::Plain(_, _) => None,
+        }
+    }
+
+    /// What the command does with the journal of a run.
+    pub fn journal_use(&self) -> Journal
+        ensures { result ≡ journal_use self.now }
+    {
+        match self {
+            Command::Verify(_, _, _) => Journal::None,
+            Command::Waits(_, _, _, _) => Journal::None,
+            Command::Races(_, _, _) => Journal::None,
+            Command::Trace(_, _, _, _) => Journal::None,
+            Command::Run(_, _, _, _, _) => Journal::Write,
+            Command::Resume(_, _) => Journal::Write,
+            Command::Edit(_) => Journal::Write,
+            Command::Moves => Journal::Look,
+            Command::State => Journal::Look,
+            Command::Zones(_) => Journal::Look,
+            Command::ZonesOf(_, _, _, _) => Journal::None,
+            Command::Branch(_) => Journal::Look,
+            Command::Make(_, _) => Journal::Write,
+            Command::Expand(_) => Journal::None,
+            Command::Plain(_, _) => Journal::None,
         }
     }
 }

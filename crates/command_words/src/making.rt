@@ -1,10 +1,10 @@
 //! The command that a row's task makes of the words and options that were given. Specs/Listed.antt
 //! defines it, mostly by functions of the same names. A further command is an arm of
-//! `plain_command`, `word_command` or `pair_command` in both.
+//! `plain_command`, `word_command`, `pair_command` or `long_command` in both.
 ghost use Rattle.std.specs.Prelude.{◌≡◌, ◌≤◌, IfSome, map, option_map};
 ghost use Rattle.nc_number.specs.declared.limits.TheConstants.{MOST_RECORDS};
 ghost use Rattle.command_words.specs.declared.making.TheConstants.{LAST_MADE, LAST_PROGRAM};
-ghost use Rattle.command_words.specs.Listed.{command_of, command_with, file_of, files_of, limit_of, outside_of, pair_command, plain_command, range_by, range_of, word_command};
+ghost use Rattle.command_words.specs.Listed.{command_of, command_with, file_of, files_of, limit_of, long_command, outside_of, pair_command, plain_command, range_by, range_of, tape_command, word_command, zones_command};
 ghost use Rattle.command_words.specs.Making.{Answers, texts_seen};
 ghost use Rattle.command_words.specs.Number.{number_of};
 
@@ -184,6 +184,14 @@ fn command_with(
             };
             pair_command(task, pair, limits, files)
         }
+        4 => {
+            let pair = PairNames {
+                left: Name::new(alloc, words[1])?,
+                right: Name::new(alloc, words[2])?,
+                settings: Some(Name::new(alloc, words[3])?),
+            };
+            long_command(alloc, task, words[0], pair)
+        }
         _ => Err(WordsFault::Usage),
     }
 }
@@ -214,6 +222,7 @@ fn word_command(
         Task::Edit => Ok(Command::Edit(Name::new(alloc, word)?)),
         Task::Zones => Ok(Command::Zones(Name::new(alloc, word)?)),
         Task::Expand => Ok(Command::Expand(Name::new(alloc, word)?)),
+        Task::Plain => Ok(Command::Plain(Name::new(alloc, word)?, None)),
         Task::Branch => branched(word),
         Task::Make => made(word, files),
         _ => Err(WordsFault::Usage),
@@ -240,6 +249,52 @@ fn pair_command(
         Task::Waits => Ok(Command::Waits(left, right, settings, limits.outside)),
         Task::Races => Ok(Command::Races(left, right, settings)),
         Task::Run => Ok(Command::Run(left, right, settings, limits.blocks, files)),
+        Task::Plain => tape_command(left, right, settings),
+        Task::Zones => zones_command(left, right, settings),
+        _ => Err(WordsFault::Usage),
+    }
+}
+
+/// The command `plain` with a tape and its settings. `Usage` if there is a third word.
+fn tape_command(tape: Name, settings: Name, third: Option<Name>) -> Result<Command, WordsFault>
+    ensures { Answers (tape_command tape settings third) result }
+{
+    match third {
+        None => Ok(Command::Plain(tape, Some(settings))),
+        Some(_) => Err(WordsFault::Usage),
+    }
+}
+
+/// The command `zones` with a pair of tapes and no settings. `Usage` if there is one tape alone.
+fn zones_command(zones: Name, left: Name, right: Option<Name>) -> Result<Command, WordsFault>
+    ensures { Answers (zones_command zones left right) result }
+{
+    match right {
+        Some(right) => Ok(Command::ZonesOf(zones, left, right, None)),
+        None => Err(WordsFault::Usage),
+    }
+}
+
+/// The command of a task that has a word before the names of a pair and its settings. Errors:
+/// `Usage` if it has fewer words; or memory.
+fn long_command(
+    alloc: Global,
+    task: Task,
+    word: &str,
+    pair: PairNames,
+) -> Result<Command, WordsFault>
+    ensures { Answers (long_command task word.now pair) result }
+{
+    let PairNames {
+        left,
+        right,
+        settings,
+    } = pair;
+    match task {
+        Task::Zones => {
+            let zones = Name::new(alloc, word)?;
+            Ok(Command::ZonesOf(zones, left, right, settings))
+        }
         _ => Err(WordsFault::Usage),
     }
 }

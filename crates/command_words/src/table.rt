@@ -1,10 +1,10 @@
 //! The commands as one list of rows. What a task makes of its words is in making.rt. A further
 //! command is a row here and in specs/Table.antt; the launcher has the same commands in
 //! scripts/words.sh.
-ghost use Rattle.std.specs.Prelude.{◌≡◌, map, option_map, string_bytes};
+ghost use Rattle.std.specs.Prelude.{◌≡◌, map, option_map};
 ghost use Rattle.std.specs.List.{list_any};
 ghost use Rattle.std.specs.Str.{bytes_eq};
-ghost use Rattle.command_words.specs.Table.{journal_of, listings, row_in, row_of, row_seen, takes_option};
+ghost use Rattle.command_words.specs.Table.{listings, row_in, row_of, row_seen, takes_option};
 
 /// What a command asks for. `Command` says what each one does.
 #[derive(Clone, Copy, Debug, PartialEq, Eq)]
@@ -22,17 +22,7 @@ pub enum Task {
     Branch,
     Make,
     Expand,
-}
-
-/// What a command does with the journal of a run.
-#[derive(Clone, Copy, Debug, PartialEq, Eq)]
-pub enum Journal {
-    /// The command leaves the journal alone.
-    None,
-    /// The command reads the journal and changes nothing in it.
-    Look,
-    /// The command may write to the journal.
-    Write,
+    Plain,
 }
 
 /// A row of the table: a command of the program, how its words are read, and what it asks for.
@@ -47,60 +37,43 @@ pub struct Row {
     /// The options that the command takes, each once at most, with a text: `--NAME TEXT` or
     /// `--NAME=TEXT`.
     pub options: &'static [&'static str],
-    /// What the command does with the journal.
-    pub journal: Journal,
     /// What the command asks for.
     pub task: Task,
 }
 
 // The rows of the table: a command's name, what its words are called, those that may be left out,
-// the options that it takes, what it does with the journal, and its task.
+// the options that it takes, and its task.
 macro_rules! command_rows {
     ($(
-        $name:literal [$($word:literal),*] [$($further:literal),*] [$($option:literal),*]
-        $journal:ident $task:ident;
+        $name:literal [$($word:literal),*] [$($further:literal),*] [$($option:literal),*] $task:ident;
     )+) => {
         [$(Row {
             name: $name,
             words: &[$($word),*],
             further: &[$($further),*],
             options: &[$($option),*],
-            journal: Journal::$journal,
             task: Task::$task,
         }),+]
     };
 }
 
 /// The commands of the program, as specs/Table.antt lists them.
-const ROWS: [Row; 13] = command_rows! {
-    "verify" ["left", "right"] ["settings"] [] None Verify;
-    "waits" ["left", "right"] ["settings"] ["outside"] None Waits;
-    "races" ["left", "right"] ["settings"] [] None Races;
-    "trace" ["left", "right"] ["settings"] ["blocks"] None Trace;
-    "run" ["left", "right"] ["settings"] ["blocks", "turret1", "turret2"] Write Run;
-    "resume" [] [] ["blocks", "turret1", "turret2"] Write Resume;
-    "edit" ["edits"] [] [] Write Edit;
-    "moves" [] [] [] Look Moves;
-    "state" [] [] [] Look State;
-    "zones" ["zones"] [] [] Look Zones;
-    "branch" ["meetings"] [] [] Look Branch;
-    "make" ["number"] [] ["turret1", "turret2"] Write Make;
-    "expand" ["tape"] [] [] None Expand;
+const ROWS: [Row; 14] = command_rows! {
+    "verify" ["left", "right"] ["settings"] [] Verify;
+    "waits" ["left", "right"] ["settings"] ["outside"] Waits;
+    "races" ["left", "right"] ["settings"] [] Races;
+    "trace" ["left", "right"] ["settings"] ["blocks"] Trace;
+    "run" ["left", "right"] ["settings"] ["blocks", "turret1", "turret2"] Run;
+    "resume" [] [] ["blocks", "turret1", "turret2"] Resume;
+    "edit" ["edits"] [] [] Edit;
+    "moves" [] [] [] Moves;
+    "state" [] [] [] State;
+    "zones" ["zones"] ["left", "right", "settings"] [] Zones;
+    "branch" ["meetings"] [] [] Branch;
+    "make" ["number"] [] ["turret1", "turret2"] Make;
+    "expand" ["tape"] [] [] Expand;
+    "plain" ["tape"] ["settings"] [] Plain;
 };
-
-/// What the command that the words name does with the journal: nothing, if they name none. They do
-/// not hold the program's own name.
-pub fn journal_of(words: &[String]) -> Journal
-    ensures { result ≡ journal_of (map string_bytes words.now) }
-{
-    let Some(name) = words.first() else {
-        return Journal::None;
-    };
-    match row_named(name.as_str()) {
-        Some(row) => row.journal,
-        None => Journal::None,
-    }
-}
 
 /// The row of the command that the word names, if it names one.
 pub fn row_named(name: &str) -> Option<Row>

@@ -1,17 +1,14 @@
--- The refusals of roughing cycles: their numbers, names and lines, as src/fault.rt has them.
-use Rattle.std.specs.Prelude.{ℕ, List, codes}
+-- The refusals of roughing cycles: their causes and lines, as src/fault.rt has them.
+use Rattle.std.specs.Prelude.{ℕ}
+use Rattle.nc_number.specs.declared.cause.Cause.{Cause}
+use Rattle.nc_number.specs.declared.cause.Cause.TheVariants as cause
 use Rattle.cycle_form.specs.declared.fault.CycleFault.{CycleFault}
 use Rattle.cycle_form.specs.declared.fault.CycleFault.TheVariants.{BadCycle, TooLarge}
 
--- The number under which the refusal is printed.
-abbrev pub fault_number : CycleFault → ℕ
-fault_number (BadCycle line) = 93
-fault_number (TooLarge line) = 94
-
--- The name under which the refusal is printed.
-abbrev pub fault_name : CycleFault → List ℕ
-fault_name (BadCycle line) = codes "BadCycle"
-fault_name (TooLarge line) = codes "TooLarge"
+-- The refusal that a fault is.
+abbrev pub fault_cause : CycleFault → Cause
+fault_cause (BadCycle line) = cause.BadCycle
+fault_cause (TooLarge line) = cause.TooLarge
 
 -- The line of the text that the refusal is about, from 1.
 abbrev pub fault_line : CycleFault → ℕ

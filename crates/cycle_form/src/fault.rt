@@ -1,7 +1,7 @@
-//! Why the roughing cycles of a tape can't be written out: 93 and 94. walk.rt and sizes.rt refuse
-//! with it. The numbers and names stand in specs/Faults too.
+//! Why the roughing cycles of a tape can't be written out. walk.rt and sizes.rt refuse with it.
 ghost use Rattle.std.specs.Prelude.{◌≡◌};
 
+use nc_number::Cause;
 use thiserror::Error;
 
 /// Why the roughing cycles of a tape can't be written out.
@@ -18,25 +18,15 @@ pub enum CycleFault {
 }
 
 impl CycleFault {
-    ghost use Rattle.cycle_form.specs.Faults.{fault_number, fault_name, fault_line};
+    ghost use Rattle.cycle_form.specs.Faults.{fault_cause, fault_line};
 
-    /// The number under which the refusal is printed.
-    pub fn number(self) -> u8
-        ensures { result ≡ fault_number self }
+    /// The refusal that it is.
+    pub fn cause(self) -> Cause
+        ensures { result ≡ fault_cause self }
     {
         match self {
-            CycleFault::BadCycle(_) => 93,
-            CycleFault::TooLarge(_) => 94,
-        }
-    }
-
-    /// The name under which the refusal is printed.
-    pub fn name(self) -> &'static str
-        ensures { result.now ≡ fault_name self }
-    {
-        match self {
-            CycleFault::BadCycle(_) => "BadCycle",
-            CycleFault::TooLarge(_) => "TooLarge",
+            CycleFault::BadCycle(_) => Cause::BadCycle,
+            CycleFault::TooLarge(_) => Cause::TooLarge,
         }
     }
 

@@ -12,19 +12,18 @@ counted_both calls n zero = let e : n ≡ n + 0 = omega arith in ap (counted_on 
 counted_both calls n (suc m) = let e : suc (n + m) ≡ n + suc m = omega arith in ap next (counted_both calls n m) ∙ ap (counted_on calls) e
 
 -- in no call a turret got nothing
-pub adds_none : (a : Option Received) → Adds a a [] 0 0
+pub adds_none : (a : Option Received) → Adds a a [] 0
 unfolding counted_on
 adds_none None = refl
-adds_none (Some was) = ap (λ l. Some (record { got = l; calls = was.calls; settles = was.settles })) (sym (append-nil was.got))
+adds_none (Some was) = ap (λ l. Some (record { got = l; calls = was.calls })) (sym (append-nil was.got))
 
 -- what a turret got in some calls and then in others it got in all of them
-pub adds_both : (a b c : Option Received) (xs ys : List Got) (n m s t : ℕ) → Adds a b xs n s → Adds b c ys m t → Adds a c (xs ++ ys) (n + m) (s + t)
-adds_both None None c xs ys n m s t p q = q
-adds_both None (Some was) c xs ys n m s t p q = absurd (cc p)
-adds_both (Some was) None c xs ys n m s t p q = absurd (cc p)
-adds_both (Some was) (Some is) c xs ys n m s t p q =
-    let e : is ≡ record { got = was.got ++ xs; calls = counted_on was.calls n; settles = counted_on was.settles s } = cc p in
-    q ∙ ap (λ (r : Received). Some (record { got = r.got ++ ys; calls = counted_on r.calls m; settles = counted_on r.settles t })) e
-    ∙ ap (λ l. Some (record { got = l; calls = counted_on (counted_on was.calls n) m; settles = counted_on (counted_on was.settles s) t })) (append_assoc was.got xs ys)
-    ∙ ap (λ k. Some (record { got = was.got ++ (xs ++ ys); calls = k; settles = counted_on (counted_on was.settles s) t })) (counted_both was.calls n m)
-    ∙ ap (λ k. Some (record { got = was.got ++ (xs ++ ys); calls = counted_on was.calls (n + m); settles = k })) (counted_both was.settles s t)
+pub adds_both : (a b c : Option Received) (xs ys : List Got) (n m : ℕ) → Adds a b xs n → Adds b c ys m → Adds a c (xs ++ ys) (n + m)
+adds_both None None c xs ys n m p q = q
+adds_both None (Some was) c xs ys n m p q = absurd (cc p)
+adds_both (Some was) None c xs ys n m p q = absurd (cc p)
+adds_both (Some was) (Some is) c xs ys n m p q =
+    let e : is ≡ record { got = was.got ++ xs; calls = counted_on was.calls n } = cc p in
+    q ∙ ap (λ (r : Received). Some (record { got = r.got ++ ys; calls = counted_on r.calls m })) e
+    ∙ ap (λ l. Some (record { got = l; calls = counted_on (counted_on was.calls n) m })) (append_assoc was.got xs ys)
+    ∙ ap (λ k. Some (record { got = was.got ++ (xs ++ ys); calls = k })) (counted_both was.calls n m)

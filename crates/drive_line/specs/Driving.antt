@@ -1,10 +1,10 @@
 -- What the drive of a turret knows of it: what it took and missed, and how it stands (`Driven`,
 -- src/driven.rt).
-use Rattle.std.specs.Prelude.{◌≡◌, ◌⊎◌, ◌≤◌, ℕ, ◌+◌, Bool, true, false, IsTrue, List, length, map, take}
-use Rattle.nc_outside.specs.declared.got.Got.TheVariants.{Moved}
-use Rattle.nc_outside.specs.declared.lined_move.LinedMove.{LinedMove}
+use Rattle.std.specs.Prelude.{◌≡◌, ◌⊎◌, ◌≤◌, ℕ, ◌+◌, suc, Bool, true, false, IsTrue, List, [], ◌∷◌, length, take, drop}
+use Rattle.nc_outside.specs.declared.got.Got.{Got}
+use Rattle.nc_outside.specs.declared.got.Got.TheVariants.{Placed, Moved, Rested}
 use Rattle.nc_outside.specs.Faults.{CountsFault}
-use Rattle.nc_outside.specs.Received.{TurretState, Adds, Settles}
+use Rattle.nc_outside.specs.Received.{TurretState, Receives}
 use Rattle.drive_line.specs.declared.phase.Phase.{Phase}
 use Rattle.drive_line.specs.declared.phase.Phase.TheVariants.{Moving, Still, Failed, Halted}
 
@@ -40,42 +40,38 @@ IsAtRest driven n = ((driven.phase ≡ Still) × (driven.taken ≡ n)) ⊎ (driv
 abbrev pub HasMoved : Phase → Type 0
 HasMoved phase = (phase ≡ Moving) ⊎ (phase ≡ Failed)
 
--- what a settle does to the turret: one that may be on its way is called once, and one that stands
--- still or has failed is not
-abbrev pub SettlesFrom : Phase → TurretState → TurretState → Type 0
-SettlesFrom Moving old new = Settles old new
-SettlesFrom Still old new = new ≡ old
-SettlesFrom Failed old new = new ≡ old
-SettlesFrom Halted old new = new ≡ old
+-- how many of these are moves
+abbrev pub move_count : List Got → ℕ
+move_count [] = 0
+move_count (Placed at ∷ told) = move_count told
+move_count (Moved what ∷ told) = suc (move_count told)
+move_count (Rested at ∷ told) = move_count told
 
--- how many calls for a move may have failed: one if the turret has failed, and else none
-abbrev pub most : Bool → ℕ
-most true = 1
-most false = 0
+-- how many calls failed: one if the turret has failed, as it is called no more then, and else none
+abbrev pub failed_calls : Bool → ℕ
+failed_calls true = 1
+failed_calls false = 0
 
--- A turret that was to get these moves took the first of them, in order and a call each, and missed
--- the others: none, unless it failed, at a call for the next move or at a settle. One that stands
--- still was told to settle, and none was told so twice without a move between.
-pub record Serves (moves : List LinedMove) (old : TurretState) (driven : DrivenState) : Type 0 where
-  -- each move was taken or missed
-  pub all : driven.taken + driven.missed ≡ length moves
-  -- one that did not fail missed none
-  pub none : has_failed driven.phase ≡ false → driven.missed ≡ 0
-  -- how many calls for a move failed
-  pub at_call : ℕ
-  -- how many calls to settle there were
-  pub settles : ℕ
-  -- at most one such call failed, and only if the turret has failed
-  pub few : at_call ≤ most (has_failed driven.phase)
-  -- the move of such a call was missed, so that it is among those
-  pub within : at_call ≤ driven.missed
-  -- one that stands still was told to settle
-  pub settled : driven.phase ≡ Still → 1 ≤ settles
-  -- it was told so at most once behind its place, and once behind each move that it took
-  pub seldom : settles ≤ 1 + driven.taken
-  -- one that may be on its way was not told so since
-  pub unsettled : driven.phase ≡ Moving → settles ≤ driven.taken
-  -- what it got since: the moves that it took, in so many calls
-  pub received : Adds old.received driven.state.received (map Moved (take driven.taken moves)) (driven.taken + at_call) settles
-  -- the count of its faults rose exactly if it failed
-  pub counted : CountsFault old.faults driven.state.faults (IsTrue (has_failed driven.phase))
+-- A turret got the first n of these, a call each. If it failed, that was in one call more, for the
+-- next of them. Only then its count of faults rose.
+pub record GetsFirst (told : List Got) (n : ℕ) (failed : Bool) (old new : TurretState) : Type 0 where
+  -- it got no more than there is, with the call that failed
+  pub within : n + failed_calls failed ≤ length told
+  -- it got the first n, in order, by a call each, beside the call that failed
+  pub received : Receives old new (take n told) (n + failed_calls failed)
+  -- its count of faults rose just if it failed
+  pub counted : CountsFault old.faults new.faults (IsTrue failed)
+
+-- A turret that was to get these (moves and rests) got the first of them, in order and a call each,
+-- and missed the others: none, unless it failed, which it did at the call for the next of them.
+pub record Serves (told : List Got) (old : TurretState) (driven : DrivenState) : Type 0 where
+  -- how many of these it got
+  pub n : ℕ
+  -- it got the first n, and has failed or not
+  pub gets : GetsFirst told n (has_failed driven.phase) old driven.state
+  -- one that did not fail got all
+  pub all : has_failed driven.phase ≡ false → n ≡ length told
+  -- the moves that it took are those that it got
+  pub taken : driven.taken ≡ move_count (take n told)
+  -- the moves that it missed are the others
+  pub missed : driven.missed ≡ move_count (drop n told)

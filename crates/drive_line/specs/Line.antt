@@ -4,7 +4,10 @@
 use Rattle.std.specs.Prelude.{◌≡◌, ◌≤◌, ℕ, ◌+◌, suc, Bool, true, false, MatchBool, List, [], ◌∷◌, ◌++◌, length, take, All, Contains, if◌then◌else◌}
 use Rattle.nc_outside.specs.declared.lined_move.LinedMove.{LinedMove}
 use Rattle.drive_line.specs.declared.item.Item.{Item}
-use Rattle.drive_line.specs.declared.item.Item.TheVariants.{Move, Mark, End}
+use Rattle.drive_line.specs.declared.item.Item.TheVariants.{Move, Mark, Finish, End}
+use Rattle.nc_outside.specs.declared.got.Got.{Got}
+use Rattle.nc_outside.specs.declared.got.Got.TheVariants.{Moved, Rested}
+use Rattle.nc_outside.specs.declared.rest.Rest.TheVariants as rest
 use Rattle.drive_line.specs.Wire.{WireId}
 
 -- Which line an end belongs to: the wire of its items, and the wire of the answers back.
@@ -33,11 +36,21 @@ pub record Taking : Type 0 where
   -- whether the last item is a mark that is not answered yet
   pub asked : Bool
 
+-- what these items tell a turret, in order: each move, a rest before a wait at each mark, and the
+-- rest at the end of the path
+abbrev pub told_among : List Item → List Got
+told_among [] = []
+told_among (Move what ∷ items) = Moved what ∷ told_among items
+told_among (Mark code ∷ items) = Rested (rest.Wait code) ∷ told_among items
+told_among (Finish ∷ items) = Rested rest.End ∷ told_among items
+told_among (End ∷ items) = told_among items
+
 -- the moves among these items
 abbrev pub moves_among : List Item → List LinedMove
 moves_among [] = []
 moves_among (Move what ∷ items) = what ∷ moves_among items
-moves_among (Mark ∷ items) = moves_among items
+moves_among (Mark code ∷ items) = moves_among items
+moves_among (Finish ∷ items) = moves_among items
 moves_among (End ∷ items) = moves_among items
 
 -- for each mark among these items, how many moves stand before it, if n moves stand before all
@@ -45,27 +58,31 @@ moves_among (End ∷ items) = moves_among items
 abbrev pub mark_counts : ℕ → List Item → List ℕ
 mark_counts n [] = []
 mark_counts n (Move what ∷ items) = mark_counts (suc n) items
-mark_counts n (Mark ∷ items) = n ∷ mark_counts n items
+mark_counts n (Mark code ∷ items) = n ∷ mark_counts n items
+mark_counts n (Finish ∷ items) = mark_counts n items
 mark_counts n (End ∷ items) = mark_counts n items
 
 -- whether the end of the line is among these items
 abbrev pub has_end : List Item → Bool
 has_end [] = false
 has_end (Move what ∷ items) = has_end items
-has_end (Mark ∷ items) = has_end items
+has_end (Mark code ∷ items) = has_end items
+has_end (Finish ∷ items) = has_end items
 has_end (End ∷ items) = true
 
 -- whether the item is a mark
 abbrev pub is_mark : Item → Bool
 is_mark (Move what) = false
-is_mark Mark = true
+is_mark (Mark code) = true
+is_mark Finish = false
 is_mark End = false
 
 -- nothing stands behind the end
 abbrev pub EndIsLast : List Item → Type 0
 EndIsLast [] = Unit {0}
 EndIsLast (Move what ∷ items) = EndIsLast items
-EndIsLast (Mark ∷ items) = EndIsLast items
+EndIsLast (Mark code ∷ items) = EndIsLast items
+EndIsLast (Finish ∷ items) = EndIsLast items
 EndIsLast (End ∷ items) = items ≡ []
 
 -- What the end of the worker keeps, which counts n moves: nothing stands behind the end, and each
@@ -92,12 +109,13 @@ pub record IsTaking (n : ℕ) (is_ended asked : Bool) (items : List Item) (given
   -- it gave the answers of all marks, but for the one that it owes
   pub given_back : given ++ owed_answer asked n ≡ mark_counts 0 items
 
--- A drain behind so many moves: it sent a mark, and received answers up to one with that number.
-pub record IsDrained (old new : Sending) (n : ℕ) : Type 0 where
+-- A drain for a wait of this code behind so many moves: it sent a mark, and received answers up to
+-- one with that number.
+pub record IsDrained (code : ℕ) (old new : Sending) (n : ℕ) : Type 0 where
   -- it is an end of the same line
   pub line : new.line ≡ old.line
-  -- it sent a mark
-  pub items : new.items ≡ old.items ++ Mark ∷ []
+  -- it sent the mark of that wait
+  pub items : new.items ≡ old.items ++ Mark code ∷ []
   -- n is the number of moves that were sent before
   pub count : n ≡ length (moves_among old.items)
   -- the last answer that it received is that number

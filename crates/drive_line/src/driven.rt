@@ -1,18 +1,19 @@
 //! A turret as its drive has it: it is handed moves, told to settle, and called no more once it has
 //! failed.
 ghost use Rattle.std.specs.Prelude.{◌≡◌, ◌⊎◌, ◌+◌, ◌++◌, ◌∷◌, [], true, false, List};
+ghost use Rattle.nc_outside.specs.declared.got.Got.{Got};
+ghost use Rattle.nc_outside.specs.declared.got.Got.TheVariants.{Moved, Rested};
 ghost use Rattle.nc_outside.specs.Calls.{IsCalled};
 ghost use Rattle.nc_outside.specs.declared.halt.Halt.TheVariants.{Turret as OfTurret};
-ghost use Rattle.nc_outside.specs.declared.lined_move.LinedMove.{LinedMove as Lined};
 ghost use Rattle.nc_outside.specs.declared.stepper.Call.TheVariants as Call;
 ghost use Rattle.nc_outside.specs.Received.{TurretState};
 ghost use Rattle.drive_line.specs.declared.phase.Phase.TheVariants.{Still, Failed, Halted};
-ghost use Rattle.drive_line.specs.Driving.{fresh_drive, has_failed, HasMoved, Serves, SettlesFrom};
+ghost use Rattle.drive_line.specs.Driving.{fresh_drive, has_failed, HasMoved, Serves};
 
 use crate::Phase;
 use crate::counting::next_count;
 use nc_number::Path;
-use nc_outside::{Halt, LinedMove, Stepper, Turret};
+use nc_outside::{Halt, LinedMove, Rest, Stepper, Turret};
 use std::marker::Model;
 use std::sync::Wait;
 
@@ -93,8 +94,8 @@ impl<T: Turret> Driven<T> {
     /// the move; a move at which it fails is missed too. Past 2^64 - 1 moves the call does not
     /// return.
     pub fn hand<R: Wait>(&mut self, rt: &R, what: &LinedMove)
-        ensures serves { (moves : List Lined) (start : TurretState)
-            → Serves moves start self.old → Serves (moves ++ what.now ∷ []) start self.new }
+        ensures serves { (told : List Got) (start : TurretState)
+            → Serves told start self.old → Serves (told ++ Moved what.now ∷ []) start self.new }
         ensures handed { has_failed self.old.phase ≡ false → HasMoved self.new.phase }
         ensures missed { has_failed self.old.phase ≡ true
             → self.new ≡ record self.old { missed = self.old.missed + 1 } }
@@ -115,19 +116,20 @@ impl<T: Turret> Driven<T> {
         }
     }
 
-    /// Waits until the turret stands still. If it does already, or failed before, nothing is done.
-    pub fn settle(&mut self)
-        ensures serves { (moves : List Lined) (start : TurretState)
-            → Serves moves start self.old → Serves moves start self.new }
-        ensures called { SettlesFrom self.old.phase self.old.state self.new.state }
+    /// Tells the turret where its path rests, and waits until it stands still. If it failed before,
+    /// nothing is done.
+    pub fn settle(&mut self, at: Rest)
+        ensures serves { (told : List Got) (start : TurretState)
+            → Serves told start self.old → Serves (told ++ Rested at ∷ []) start self.new }
         ensures settled { has_failed self.old.phase ≡ false → (self.new.phase ≡ Still) ⊎ (self.new.phase ≡ Failed) }
-        ensures stays { (has_failed self.old.phase ≡ true) ⊎ (self.old.phase ≡ Still) → self.new ≡ self.old }
+        ensures stays { has_failed self.old.phase ≡ true → self.new ≡ self.old }
     {
-        if let Phase::Moving = self.phase {
-            match self.turret.settle() {
-                Ok(()) => self.phase = Phase::Still,
-                Err(_) => self.phase = Phase::Failed,
-            }
+        if self.has_failed() {
+            return;
+        }
+        match self.turret.settle(at) {
+            Ok(()) => self.phase = Phase::Still,
+            Err(_) => self.phase = Phase::Failed,
         }
     }
 

@@ -7,9 +7,11 @@ use nc_outside::LinedMove;
 pub enum Item {
     /// A move for the turret.
     Move(LinedMove),
-    /// The drive is to answer how many moves it has taken, once its turret stands still behind
-    /// them.
-    Mark,
+    /// The path comes to the wait of this code. The drive is to answer how many moves it has taken,
+    /// once its turret stands still behind them.
+    Mark(u16),
+    /// The path has ended: its turret is to stand still behind all moves.
+    Finish,
     /// The end of what is sent: nothing comes behind it.
     End,
 }

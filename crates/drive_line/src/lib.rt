@@ -1,8 +1,8 @@
 //! A drive line: from the worker of a path to the drive of its turret. It is bounded, so that a
 //! worker that is far ahead waits, and first in, first out.
 //!
-//! The worker sends moves and the end, and can drain the line: it sends a mark, and waits for the
-//! drive's answer to that. The drive takes these one by one, and answers a mark only with its turret
+//! The worker sends moves, that its path has ended, and the end, and can drain the line for a wait:
+//! it sends a mark, and waits for the drive's answer to that. The drive takes these one by one, and answers a mark only with its turret
 //! (`Driven`): that stands still behind every move that was taken, or it failed and the run was
 //! halted. Each end means what went through it. `close_line` puts both ends together: what was taken
 //! is a beginning of what was sent, in order, each once, all of it where the end was taken, and

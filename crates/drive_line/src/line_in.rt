@@ -98,15 +98,28 @@ impl<'r, R: Wait> LineIn<'r, R> {
         self.forth.send(self.rt, Item::Move(what));
     }
 
-    /// Sends a mark, and waits for answers until one has the number of the moves that were sent.
-    pub fn drain(&mut self) -> Drained
+    /// Sends the mark of a wait of this code, and waits for answers until one has the number of the
+    /// moves that were sent.
+    pub fn drain(&mut self, code: u16) -> Drained
         requires { has_end self.old.items ≡ false }
-        ensures drained { IsDrained self.old self.new result.count }
+        ensures drained { IsDrained code self.old self.new result.count }
         ensures open { has_end self.new.items ≡ false }
     {
-        self.forth.send(self.rt, Item::Mark);
+        self.forth.send(self.rt, Item::Mark(code));
         await_answer(self.rt, &mut self.back, self.sent);
         Drained { count: self.sent }
+    }
+
+    /// Sends that the path has ended, at which the turret is to stand still. Where the line is full
+    /// it waits.
+    pub fn finish(&mut self)
+        requires { has_end self.old.items ≡ false }
+        ensures line { self.new.line ≡ self.old.line }
+        ensures items { self.new.items ≡ self.old.items ++ Item.Finish ∷ [] }
+        ensures open { has_end self.new.items ≡ false }
+        ensures received { self.new.received ≡ self.old.received }
+    {
+        self.forth.send(self.rt, Item::Finish);
     }
 
     /// Sends the end. Where the line is full it waits.

@@ -95,7 +95,8 @@ impl<'r, R: Wait, T: Turret> LineOut<'r, R, T> {
         let item = self.forth.take(self.rt);
         match item {
             Item::Move(_) => self.taken = next_count(self.rt, self.taken),
-            Item::Mark => self.asked = true,
+            Item::Mark(_) => self.asked = true,
+            Item::Finish => {}
             Item::End => self.ended = true,
         }
         item

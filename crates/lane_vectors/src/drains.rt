@@ -4,7 +4,7 @@ use crate::workers::block;
 use drive_line::{Drained, Driven, Line};
 use nc_moves::Move;
 use nc_number::{NoMemory, Path, Point};
-use nc_outside::{Drain, Drainable, Failed, Halt, LinedMove, Next, Stepper, Turret};
+use nc_outside::{Drain, Drainable, Failed, Halt, LinedMove, Next, Rest, Stepper, Turret};
 use path_worker::{Lane, run_lane};
 use std::alloc::Global;
 use std::sync::Wait;
@@ -42,7 +42,7 @@ impl<'a> Turret for Queue<'a> {
         Ok(())
     }
 
-    fn settle(&mut self) -> Result<(), Failed> {
+    fn settle(&mut self, _at: Rest) -> Result<(), Failed> {
         for _ in 0..50u8 {
             thread::yield_now();
         }
@@ -90,7 +90,7 @@ impl<'a> Stepper for Watcher<'a> {
         match step {
             201.. => Next::Finished,
             _ if step % 2 == 0 => block(1, &[Move::Aux { m: 1 }, Move::Aux { m: 2 }]),
-            _ => Next::Drain,
+            _ => Next::Drain(101),
         }
     }
 

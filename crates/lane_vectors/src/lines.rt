@@ -1,4 +1,4 @@
-//! Tests of a line of moves between two threads (drive_line): rests, a drain among them, and the
+//! Tests of a line of moves between two threads (drive_line): dwells, a drain among them, and the
 //! end come out in the order in which they were sent.
 ghost use Rattle.std.specs.Prelude.{◌≡◌, ◌<◌, false, []};
 ghost use Rattle.drive_line.specs.Line.{has_end};
@@ -31,7 +31,7 @@ fn send_rests<R: Wait>(
         let what = Move::Dwell { ms: number as u64 };
         line.send(LinedMove { line: number, what });
         if number == drained {
-            told = line.drain().count();
+            told = line.drain(101).count();
         }
     }
     line.end_line();
@@ -70,8 +70,8 @@ fn next_of(got: &[Got], first: u32) -> u32 {
     next
 }
 
-/// What the drain told, the number after the last rest that the turret got in order, how many rests
-/// it got, and whether the end was taken.
+/// What the drain told, the number after the last dwell that the turret got in order, how many dwells
+/// and rests it got, and whether the end was taken.
 type Crossed = (u64, u32, usize, bool);
 
 /// Rests cross a line of this bound in two threads. Given are the first rest, the one with a drain
@@ -85,7 +85,7 @@ fn cross<R: Threads + Wait + Sync>(
     requires { 0 < bound }
 {
     let [first, drained, last] = rests;
-    let turret = MemoryTurret::new(alloc, 1000, &[])?;
+    let turret = MemoryTurret::new(alloc, 1001, &[])?;
     let (line_in, line_out) = Line::new(rt, alloc, bound)?;
     let ((told, line_in), (turret, line_out)) = thread::join(
         rt,
@@ -104,10 +104,10 @@ fn cross<R: Threads + Wait + Sync>(
 #[test]
 fn rests_and_the_end_cross_a_line_in_order(rt: HostRuntime) -> Result<(), Fail> {
     for (times, bound, rests, due) in [
-        (200, 2, [1, 2, 3], (2, 4, 3, true)),
-        (1, 1, [0, 999, 999], (1000, 1000, 1000, true)),
-        (1, 2, [0, 999, 999], (1000, 1000, 1000, true)),
-        (1, 64, [0, 999, 999], (1000, 1000, 1000, true)),
+        (200, 2, [1, 2, 3], (2, 4, 4, true)),
+        (1, 1, [0, 999, 999], (1000, 1000, 1001, true)),
+        (1, 2, [0, 999, 999], (1000, 1000, 1001, true)),
+        (1, 64, [0, 999, 999], (1000, 1000, 1001, true)),
     ] {
         for _ in 0..times {
             let crossed = cross(&rt, rt.alloc(), bound, rests)?;

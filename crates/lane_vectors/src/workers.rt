@@ -6,7 +6,7 @@ ghost use Rattle.drive_line.specs.Driving.{fresh_drive};
 use drive_line::{Driven, Line};
 use nc_moves::{Move, MoveList, Moves};
 use nc_number::{NoMemory, Path};
-use nc_outside::{Call, Got, Halt, LinedMove, ListStepper, MemoryTurret, Next};
+use nc_outside::{Call, Got, Halt, LinedMove, ListStepper, MemoryTurret, Next, Rest};
 use path_worker::{Lane, LaneEnd, Why, run_lane};
 use std::alloc::{AllocError, Global};
 use std::sync::Wait;
@@ -70,7 +70,7 @@ fn answer_of(word: &str) -> Next {
         "M2M3" => block(5, &[Move::Aux { m: 2 }, Move::Aux { m: 3 }]),
         "M4" => block(8, &[Move::Aux { m: 4 }]),
         "empty" => block(6, &[]),
-        "drain" => Next::Drain,
+        "drain" => Next::Drain(101),
         "halted" => Next::Halted(Halt::Budget),
         _ => Next::Finished,
     }
@@ -91,7 +91,7 @@ fn word_of(answer: &Next) -> &'static str {
     match answer {
         Next::Silent => "silent",
         Next::Moves(_) => "moves",
-        Next::Drain => "drain",
+        Next::Drain(_) => "drain",
         Next::Finished => "finished",
         Next::Halted(_) => "halted",
     }
@@ -115,7 +115,7 @@ fn put_calls(out: &mut String, calls: &[Call]) -> Result<(), AllocError> {
     Ok(())
 }
 
-/// Writes the moves that a turret got, each with its line.
+/// Writes the moves that a turret got, each with its line, and its rests.
 fn put_got(out: &mut String, got: &[Got]) -> Result<(), AllocError> {
     for what in got {
         match *what {
@@ -125,6 +125,8 @@ fn put_got(out: &mut String, got: &[Got]) -> Result<(), AllocError> {
                     what: Move::Aux { m },
                 },
             ) => write!(out, " {line}:M{m}")?,
+            Got::Rested(Rest::Wait(code)) => write!(out, " rest {code}")?,
+            Got::Rested(Rest::End) => out.push_str(" end")?,
             _ => out.push_str(" another")?,
         }
     }
@@ -182,42 +184,78 @@ const CALLS: &str = "silent moves drain drained 1 moves moves drain drained 3 mo
 fn a_worker_steps_sends_and_drains_until_the_turret_fails(rt: HostRuntime) -> Result<(), Fail> {
     let alloc = rt.alloc();
     for (bound, failing, unsettled, last, left) in [
-        (1, 0, 0, "halted", "3:M1 5:M2 5:M3 8:M4 missed 0 whole"),
-        (2, 0, 0, "halted", "3:M1 5:M2 5:M3 8:M4 missed 0 whole"),
-        (64, 0, 0, "halted", "3:M1 5:M2 5:M3 8:M4 missed 0 whole"),
+        (
+            1,
+            0,
+            0,
+            "halted",
+            "3:M1 rest 101 5:M2 5:M3 rest 101 8:M4 missed 0 whole",
+        ),
+        (
+            2,
+            0,
+            0,
+            "halted",
+            "3:M1 rest 101 5:M2 5:M3 rest 101 8:M4 missed 0 whole",
+        ),
+        (
+            64,
+            0,
+            0,
+            "halted",
+            "3:M1 rest 101 5:M2 5:M3 rest 101 8:M4 missed 0 whole",
+        ),
         (2, 1, 0, "finished", "missed 4 failed halt of path 1"),
-        (2, 2, 0, "finished", "3:M1 missed 3 failed halt of path 1"),
+        (
+            2,
+            2,
+            0,
+            "finished",
+            "3:M1 rest 101 missed 3 failed halt of path 1",
+        ),
         (
             2,
             3,
             0,
             "finished",
-            "3:M1 5:M2 missed 2 failed halt of path 1",
+            "3:M1 rest 101 5:M2 missed 2 failed halt of path 1",
         ),
         (
             2,
             4,
             0,
             "finished",
-            "3:M1 5:M2 5:M3 missed 1 failed halt of path 1",
+            "3:M1 rest 101 5:M2 5:M3 rest 101 missed 1 failed halt of path 1",
         ),
-        (2, 5, 0, "finished", "3:M1 5:M2 5:M3 8:M4 missed 0 whole"),
+        (
+            2,
+            5,
+            0,
+            "finished",
+            "3:M1 rest 101 5:M2 5:M3 rest 101 8:M4 end missed 0 whole",
+        ),
         (2, 0, 1, "finished", "3:M1 missed 3 failed halt of path 1"),
         (
             2,
             0,
             2,
             "finished",
-            "3:M1 5:M2 5:M3 missed 1 failed halt of path 1",
+            "3:M1 rest 101 5:M2 5:M3 missed 1 failed halt of path 1",
         ),
         (
             2,
             0,
             3,
             "finished",
-            "3:M1 5:M2 5:M3 8:M4 missed 0 failed halt of path 1",
+            "3:M1 rest 101 5:M2 5:M3 rest 101 8:M4 missed 0 failed halt of path 1",
         ),
-        (2, 0, 4, "finished", "3:M1 5:M2 5:M3 8:M4 missed 0 whole"),
+        (
+            2,
+            0,
+            4,
+            "finished",
+            "3:M1 rest 101 5:M2 5:M3 rest 101 8:M4 end missed 0 whole",
+        ),
     ] {
         let due = format!(in alloc; "{last} {left} of {CALLS} {last}")?;
         let told = outcome(&rt, alloc, bound, failing, unsettled, last)?;
@@ -233,7 +271,7 @@ fn many_blocks(alloc: Global, count: u64) -> Result<Vec<Next>, NoMemory> {
     for ms in 0..count {
         answers.push(block(1, &[Move::Dwell { ms }]))?;
         if ms % 10 == 9 {
-            answers.push(Next::Drain)?;
+            answers.push(Next::Drain(101))?;
         }
     }
     Ok(answers)
@@ -254,8 +292,8 @@ fn in_order(got: &[Got]) -> u64 {
     count
 }
 
-/// Whether the path finished, whether the turret failed, how many moves it missed, how many it got,
-/// how many of them came in order, and how many calls the worker made.
+/// Whether the path finished, whether the turret failed, how many moves it missed, how many moves and
+/// rests it got, how many moves came in order, and how many calls the worker made.
 type Rested = (bool, bool, u64, usize, u64, usize);
 
 /// What is left of a run of so many blocks with one rest each.
@@ -285,10 +323,10 @@ fn rested<R: Threads + Wait + Sync>(
 #[test]
 fn rests_reach_the_turret_in_order(rt: HostRuntime) -> Result<(), Fail> {
     for (count, bound, due) in [
-        (12, 2, (true, false, 0, 12, 12, 15)),
-        (1000, 1, (true, false, 0, 1000, 1000, 1201)),
-        (1000, 2, (true, false, 0, 1000, 1000, 1201)),
-        (1000, 64, (true, false, 0, 1000, 1000, 1201)),
+        (12, 2, (true, false, 0, 14, 12, 15)),
+        (1000, 1, (true, false, 0, 1101, 1000, 1201)),
+        (1000, 2, (true, false, 0, 1101, 1000, 1201)),
+        (1000, 64, (true, false, 0, 1101, 1000, 1201)),
     ] {
         let got = rested(&rt, rt.alloc(), count, bound)?;
         assert_eq!(rt; got, due);

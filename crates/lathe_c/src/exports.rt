@@ -5,7 +5,7 @@
 //! All answer the same way: the texts are the tape of path 1, the tape of path 2 and the settings;
 //! the result is the exit status; the front of the answer is put into `room`, and its whole length
 //! into `len`. Out of memory has a status of its own.
-ghost use Rattle.std.specs.Prelude.{◌≡◌, ℕ, List, Some, length};
+ghost use Rattle.std.specs.Prelude.{◌≡◌, ℕ, List, [], Some, length};
 ghost use Rattle.cause_words.specs.Words.{IsNameOf};
 ghost use Rattle.lathe_calls.specs.declared.question.Question.TheVariants as ask;
 ghost use Rattle.lathe_calls.specs.Due.{IsAnswerTo};
@@ -13,11 +13,17 @@ ghost use Rattle.lathe_calls.specs.Order.{AreToldOf};
 ghost use Rattle.lathe_calls.specs.Said.{answer_with, room_with};
 ghost use Rattle.lathe_calls.specs.Weighed.{IsWeighed};
 ghost use Rattle.lathe_calls.specs.Texts.{three_texts};
+ghost use Rattle.tape_calls.specs.Due.{IsTapeAnswer};
+ghost use Rattle.tape_calls.specs.Texts.{tape_and_settings};
+ghost use Rattle.tape_calls.specs.declared.question.TapeQuestion.TheVariants as about;
+ghost use Rattle.zone_calls.specs.Due.{AreZonesSaid};
 
 use cause_words::{meaning_bytes, name_bytes};
 use lathe_calls::{Event, PairTexts, Question, RefusedAs, Said, answer, events, hand_out, weigh};
 use open_order::Outside;
 use std::alloc::Global;
+use tape_calls::{TapeQuestion, TapeTexts, answer_tape};
+use zone_calls::answer_zones;
 
 /// Gives the status of an answer, and puts its length into `len`.
 fn told(it: Said, len: &mut usize) -> u8
@@ -191,6 +197,53 @@ pub extern "C" fn lathe_races(
 {
     let texts = PairTexts::of(left, right, settings);
     told(answer(alloc, &texts, Question::Races, room), len)
+}
+
+/// What a text of zones asks for of the run whose paths take turns, of at most `limit` records. The
+/// length is in bytes.
+#[unsafe(no_mangle)]
+pub extern "C" fn lathe_zones(
+    alloc: Global,
+    left: &[u8],
+    right: &[u8],
+    settings: &[u8],
+    zones: &[u8],
+    limit: u32,
+    room: &mut [u8],
+    len: &mut usize,
+) -> u8
+    ensures { AreZonesSaid limit zones.now (three_texts left.now right.now settings.now)
+        room.old room.new (answer_with result len.new) }
+{
+    let texts = PairTexts::of(left, right, settings);
+    told(answer_zones(alloc, &texts, zones, limit, room), len)
+}
+
+/// The tape with its roughing cycles written out as plain blocks. The length is in bytes.
+#[unsafe(no_mangle)]
+pub extern "C" fn lathe_expand(alloc: Global, tape: &[u8], room: &mut [u8], len: &mut usize) -> u8
+    ensures { IsTapeAnswer about.Expand (tape_and_settings tape.now [])
+        room.old room.new (answer_with result len.new) }
+{
+    let texts = TapeTexts::of(tape, b"".as_slice());
+    told(answer_tape(alloc, &texts, TapeQuestion::Expand, room), len)
+}
+
+/// The tape in the language that the control runs, as the settings say that it is read. The length
+/// is in bytes.
+#[unsafe(no_mangle)]
+pub extern "C" fn lathe_plain(
+    alloc: Global,
+    tape: &[u8],
+    settings: &[u8],
+    room: &mut [u8],
+    len: &mut usize,
+) -> u8
+    ensures { IsTapeAnswer about.Plain (tape_and_settings tape.now settings.now)
+        room.old room.new (answer_with result len.new) }
+{
+    let texts = TapeTexts::of(tape, settings);
+    told(answer_tape(alloc, &texts, TapeQuestion::Plain, room), len)
 }
 
 /// The events of the run whose paths get their turns in an order: a byte for each turn, 1 or 2. The

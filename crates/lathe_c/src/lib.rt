@@ -6,6 +6,6 @@
 mod exports;
 
 pub use exports::{
-    lathe_events, lathe_judge, lathe_meaning, lathe_name, lathe_races, lathe_run, lathe_state,
-    lathe_trace, lathe_verify, lathe_version, lathe_waits,
+    lathe_events, lathe_expand, lathe_judge, lathe_meaning, lathe_name, lathe_plain, lathe_races,
+    lathe_run, lathe_state, lathe_trace, lathe_verify, lathe_version, lathe_waits, lathe_zones,
 };

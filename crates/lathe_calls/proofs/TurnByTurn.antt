@@ -7,7 +7,7 @@ use Rattle.two_path.specs.Machine.{MachineView}
 use Rattle.two_path.specs.Turns.{Tapes, turn_of}
 use Rattle.two_path.specs.Histories.{run, turns_of}
 use Rattle.lathe_calls.specs.declared.event.Event.{Event}
-use Rattle.lathe_calls.specs.Events.{stamp_of, turn_events}
+use Rattle.lathe_calls.specs.Events.{events_of_turn}
 use Rattle.lathe_calls.specs.Order.{events_from, turns_given}
 
 -- no turn is given once there are as many records as there may be
@@ -27,12 +27,12 @@ given_more tapes most m path order few =
 -- after one turn more, the events so far and those of the further turns are all
 pub events_go_on : (tapes : Tapes) (most : ℕ) (m after : MachineView) (path : Path) (order rest : List Path) (done more all : List Event)
     → order ≡ path ∷ rest → m.count < most → after ≡ (turn_of tapes path m).machine
-    → more ≡ done ++ turn_events (stamp_of tapes path m) (turn_of tapes path m).turn
+    → more ≡ done ++ events_of_turn tapes path m
     → done ++ events_from tapes m (turns_given tapes most m order) ≡ all
     → more ++ events_from tapes after (turns_given tapes most after rest) ≡ all
 events_go_on tapes most m after path order rest done more all is few is_after is_more so_far =
     let next = (turn_of tapes path m).machine in
-    let own = turn_events (stamp_of tapes path m) (turn_of tapes path m).turn in
+    let own = events_of_turn tapes path m in
     ap (λ (es : List Event). es ++ events_from tapes after (turns_given tapes most after rest)) is_more
     ∙ ap (λ (x : MachineView). (done ++ own) ++ events_from tapes x (turns_given tapes most x rest)) is_after
     ∙ append_assoc done own (events_from tapes next (turns_given tapes most next rest))

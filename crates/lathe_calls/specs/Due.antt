@@ -19,6 +19,7 @@ use Rattle.lathe_calls.specs.declared.said.Said.{Said}
 use Rattle.lathe_calls.specs.declared.question.Question.{Question}
 use Rattle.lathe_calls.specs.declared.question.Question.TheVariants as ask
 use Rattle.lathe_calls.specs.Said.{IsSaid}
+use Rattle.lathe_calls.specs.Texts.{are_fit}
 
 -- the records of the run of a pair whose paths take turns, path 1 and path 2 one after the other
 -- (turn_order): `limit` at most, and no more than the settings allow
@@ -65,4 +66,4 @@ IsDueTo ask.Races texts = IsOfPair IsRaceAnswer texts
 
 -- what a call says of three texts and a question, and what it leaves in the caller's room
 abbrev pub IsAnswerTo : Question → Texts → List ℕ → List ℕ → Said → Type 0
-IsAnswerTo question texts before after it = IsSaid texts (λ status text. IsDueTo question texts (tells status text)) before after it
+IsAnswerTo question texts before after it = IsSaid (are_fit texts) (λ status text. IsDueTo question texts (tells status text)) before after it

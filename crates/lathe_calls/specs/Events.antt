@@ -1,7 +1,7 @@
 -- The events of a turn, as C has them: which event comes of which move and turn, and which of its
 -- fields are set. No other crate cites it. The numbers are those of `Kind` (src/event.rt), of
 -- `include/lathe.h` and of examples/simulator.py: all change together.
-use Rattle.std.specs.Prelude.{ℕ, Bool, true, false, pos, List, [], ◌∷◌, ◌++◌, map}
+use Rattle.std.specs.Prelude.{ℕ, ◌||◌, Bool, true, false, if◌then◌else◌, pos, List, [], ◌∷◌, ◌++◌, map}
 use Rattle.nc_number.specs.declared.path.Path.{Path}
 use Rattle.nc_number.specs.declared.point.Point.{Point}
 use Rattle.nc_number.specs.Path.{number_of}
@@ -14,7 +14,8 @@ use Rattle.two_path.specs.declared.turn.Turn.{Turn}
 use Rattle.two_path.specs.declared.turn.Turn.TheVariants as turn
 use Rattle.two_path.specs.Machine.{MachineView}
 use Rattle.two_path.specs.Turns.{Tapes, turn_of}
-use Rattle.trace_list.specs.Trace.{line_of}
+use Rattle.trace_list.specs.declared.looking.Look.{Look}
+use Rattle.trace_list.specs.Trace.{line_of, look_of, path_in, is_same_point, is_same_way, says_speed}
 use Rattle.lathe_calls.specs.declared.event.Event.{Event}
 use Rattle.lathe_calls.specs.declared.event.Kind.{Kind}
 use Rattle.lathe_calls.specs.declared.event.Kind.TheVariants as kind
@@ -38,6 +39,9 @@ kind_number kind.Met = 12
 kind_number kind.Ended = 13
 kind_number kind.Alarm = 14
 kind_number kind.Read = 15
+kind_number kind.Shift = 16
+kind_number kind.Home = 17
+kind_number kind.Way = 18
 
 -- a yes or no as C has it: 1 or 0
 abbrev pub flag : Bool → ℕ
@@ -99,9 +103,37 @@ move_event at (move.Aux m) = coded_event at kind.Aux m
 abbrev pub alarm_event : Stamp → Alarm → Event
 alarm_event at alarm = record (coded_event at kind.Alarm alarm.cause) { value = alarm.value }
 
+-- when and where a path begins: before its first block, at no line
+abbrev pub begin_stamp : Path → Stamp
+begin_stamp path = record { records = 0; path = path; line = 0 }
+
 -- the event that the turret of a path stands at a point before its first block
 abbrev pub placed_event : Path → Point → Event
-placed_event path to = moving_event (record { records = 0; path = path; line = 0 }) kind.Placed to
+placed_event path to = moving_event (begin_stamp path) kind.Placed to
+
+-- the event that a path comes home at this point
+abbrev pub home_event : Path → Point → Event
+home_event path at = moving_event (begin_stamp path) kind.Home at
+
+-- the event that a shift is in force: machine coordinates less work coordinates
+abbrev pub shift_event : Stamp → Point → Event
+shift_event at by = moving_event at kind.Shift by
+
+-- the event that the spindle keeps a surface speed from here on, or no longer
+abbrev pub way_event : Stamp → Bool → Event
+way_event at surface = record (bare_event at kind.Way) { at_surface = flag surface }
+
+-- the shift, if the block changed it
+abbrev pub shift_events : Stamp → Point → Point → List Event
+shift_events at before after = if is_same_point before after then [] else shift_event at after ∷ []
+
+-- the way of the spindle, if the block changed it without saying the speed
+abbrev pub way_events : Stamp → List Move → Bool → Bool → List Event
+way_events at moves before after = if is_same_way before after || says_speed moves then [] else way_event at after ∷ []
+
+-- what a block changed without a move
+abbrev pub change_events : Stamp → Look → Look → List Move → List Event
+change_events at before after moves = shift_events at before.shift after.shift ++ way_events at moves before.surface after.surface
 
 -- the events of a block: its moves, or that it has none
 abbrev pub block_events : Stamp → List Move → List Event
@@ -112,20 +144,32 @@ block_events at (what ∷ moves) = map (move_event at) (what ∷ moves)
 abbrev pub end_events : Stamp → List Move → List Event
 end_events at moves = map (move_event at) moves ++ bare_event at kind.Ended ∷ []
 
--- the events of a turn; a turn that waits, or that comes after an end or an alarm, has none
-abbrev pub turn_events : Stamp → Turn → List Event
-turn_events at (turn.Read variable stamp) = counting_event at kind.Read variable ∷ []
-turn_events at (turn.Did moves) = block_events at moves.list
-turn_events at (turn.Arrived code) = coded_event at kind.Arrived code ∷ []
-turn_events at (turn.Met code) = coded_event at kind.Met code ∷ []
-turn_events at (turn.Ended moves) = end_events at moves.list
-turn_events at (turn.Waiting code) = []
-turn_events at turn.Finished = []
-turn_events at (turn.Alarm alarm) = alarm_event at alarm ∷ []
-turn_events at (turn.Halted alarm) = []
-turn_events at turn.Edited = []
+-- the events of a turn, by what was in force for its path before and after it: what its block
+-- changed without a move comes first; a turn that waits, or that comes after an end or an alarm, has
+-- none
+abbrev pub turn_events : Stamp → Look → Look → Turn → List Event
+turn_events at before after (turn.Read variable stamp) = counting_event at kind.Read variable ∷ []
+turn_events at before after (turn.Did moves) = change_events at before after moves.list ++ block_events at moves.list
+turn_events at before after (turn.Arrived code) = coded_event at kind.Arrived code ∷ []
+turn_events at before after (turn.Met code) = coded_event at kind.Met code ∷ []
+turn_events at before after (turn.Ended moves) = change_events at before after moves.list ++ end_events at moves.list
+turn_events at before after (turn.Waiting code) = []
+turn_events at before after turn.Finished = []
+turn_events at before after (turn.Alarm alarm) = alarm_event at alarm ∷ []
+turn_events at before after (turn.Halted alarm) = []
+turn_events at before after turn.Edited = []
 
 -- when and where the events of a path's turn are: how many records there are after it, and the line
 -- at which the path stood before it
 abbrev pub stamp_of : Tapes → Path → MachineView → Stamp
 stamp_of tapes path m = record { records = (turn_of tapes path m).machine.count; path = path; line = line_of tapes path m }
+
+-- the events of a path's turn on this machine
+abbrev pub events_of_turn : Tapes → Path → MachineView → List Event
+events_of_turn tapes path m =
+    turn_events (stamp_of tapes path m) (look_of (path_in path m)) (look_of (path_in path (turn_of tapes path m).machine))
+    (turn_of tapes path m).turn
+
+-- how a path begins: where its turret stands, where it comes home, and the shift that is in force
+abbrev pub begin_events : Path → Point → Point → Point → List Event
+begin_events path at home shift = placed_event path at ∷ home_event path home ∷ shift_event (begin_stamp path) shift ∷ []

@@ -16,7 +16,10 @@ use Rattle.lathe_calls.specs.Statuses as exit
 use Rattle.lathe_calls.specs.declared.event.Event.{Event}
 use Rattle.lathe_calls.specs.declared.said.Said.{Said}
 use Rattle.lathe_calls.specs.Said.{IsSaid}
-use Rattle.lathe_calls.specs.Events.{placed_event, stamp_of, turn_events}
+use Rattle.lathe_calls.specs.Texts.{are_fit}
+use Rattle.path_state.specs.Looks.{shift_now}
+use Rattle.path_state.specs.View.{PathView}
+use Rattle.lathe_calls.specs.Events.{begin_events, events_of_turn}
 
 -- each byte of an order names a path
 abbrev pub is_order : List ℕ → Bool
@@ -37,11 +40,15 @@ turns_given tapes most m (path ∷ order) =
 abbrev pub events_from : Tapes → MachineView → List Path → List Event
 events_from tapes m [] = []
 events_from tapes m (path ∷ order) =
-    turn_events (stamp_of tapes path m) (turn_of tapes path m).turn ++ events_from tapes (turn_of tapes path m).machine order
+    events_of_turn tapes path m ++ events_from tapes (turn_of tapes path m).machine order
 
--- the first two events: where both turrets stand before their first blocks
-abbrev pub placed_events : MachineView → List Event
-placed_events m = placed_event One m.paths.one.path.position ∷ placed_event Two m.paths.two.path.position ∷ []
+-- how a path begins that stands so
+abbrev pub path_begins : Path → PathView → List Event
+path_begins path at = begin_events path at.position at.fixed.home (shift_now at)
+
+-- the first events: how both paths begin
+abbrev pub first_events : MachineView → List Event
+first_events m = path_begins One m.paths.one.path ++ path_begins Two m.paths.two.path
 
 -- how far a run has come that may have so many records: it has ended, or there are so many, or the
 -- order is over
@@ -49,13 +56,13 @@ abbrev pub end_after : ℕ → MachineView → Reason
 end_after most m = unwrap_or (end_of m) (if nat_le most m.count then Reason.Full else Reason.Stopped)
 
 -- The events of two tapes from a machine on, of which the paths get their turns in this order:
--- where both turrets begin, and what each turn came to, up to so many records. The records of these
+-- how both paths begin, and what each turn came to, up to so many records. The records of these
 -- turns are one legal history, and the status says how far it has come.
 pub record AreEventsFrom (tapes : Tapes) (start : MachineView) (most : ℕ) (order : List Path) (status : ℕ) (list : List Event) : Type 0 where
   -- the records of the turns that are given are a legal history
   pub legal : IsLegal tapes start (history tapes start (turns_of (turns_given tapes most start order)))
-  -- the events are where both turrets begin, and those of the turns that are given
-  pub events : list ≡ placed_events start ++ events_from tapes start (turns_given tapes most start order)
+  -- the events are how both paths begin, and those of the turns that are given
+  pub events : list ≡ first_events start ++ events_from tapes start (turns_given tapes most start order)
   -- the status says how far the run has come
   pub ends : status ≡ exit.reason_status
       (end_after most (run tapes start (turns_of (turns_given tapes most start order))))
@@ -77,4 +84,4 @@ pub data AreDue (order : List ℕ) (texts : Texts) : ℕ → List Event → Type
 
 -- what a call says of three texts and an order, and what it leaves in the caller's room
 abbrev pub AreToldOf : List ℕ → Texts → List Event → List Event → Said → Type 0
-AreToldOf order texts before after it = IsSaid texts (AreDue order texts) before after it
+AreToldOf order texts before after it = IsSaid (are_fit texts) (AreDue order texts) before after it

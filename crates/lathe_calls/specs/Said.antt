@@ -1,9 +1,7 @@
 -- What a call says beside its text, and what it leaves in the caller's room. Due and Order cite it.
-use Rattle.std.specs.Prelude.{◌≡◌, ◌≢◌, ℕ, true, false, List, ◌++◌, length, take, drop}
-use Rattle.nc_verify.specs.Verdict.{Texts}
+use Rattle.std.specs.Prelude.{◌≡◌, ◌≢◌, ℕ, Bool, true, false, List, ◌++◌, length, take, drop}
 use Rattle.lathe_calls.specs.Statuses as exit
 use Rattle.lathe_calls.specs.declared.said.Said.{Said}
-use Rattle.lathe_calls.specs.Texts.{are_fit}
 
 -- the answer with this status, and a whole of so many items
 abbrev pub answer_with : ℕ → ℕ → Said
@@ -21,17 +19,17 @@ pub data IsHanded (status : ℕ) (text before after : List ℕ) (it : Said) : Ty
   lacking : status ≡ exit.no_memory → it ≡ answer_with exit.no_memory 0 → after ≡ before
       → IsHanded status text before after it
 
--- What a call says of three texts: the status and the length of what is due, of which the room
--- holds the front. Or 13 if a text is too long, or 12 if memory ran out; then the room is as it
--- was.
-pub data IsSaid {A : Type 0} (texts : Texts) (IsDue : ℕ → List A → Type 0) (before after : List A) (it : Said) : Type 0 where
+-- What a call says of its texts, which are fit or not: the status and the length of what is due, of
+-- which the room holds the front. Or 13 if a text is too long, or 12 if memory ran out; then the
+-- room is as it was.
+pub data IsSaid {A : Type 0} (fit : Bool) (IsDue : ℕ → List A → Type 0) (before after : List A) (it : Said) : Type 0 where
   -- what is due was handed out, as far as the room holds
-  whole : {status : ℕ} {list : List A} → are_fit texts ≡ true → IsDue status list
+  whole : {status : ℕ} {list : List A} → fit ≡ true → IsDue status list
       → it ≡ answer_with status (length list)
-      → after ≡ room_with list before → IsSaid texts IsDue before after it
+      → after ≡ room_with list before → IsSaid fit IsDue before after it
   -- a text is longer than a file of its kind may be
-  too_long : are_fit texts ≡ false → it ≡ answer_with exit.no_file 0 → after ≡ before
-      → IsSaid texts IsDue before after it
+  too_long : fit ≡ false → it ≡ answer_with exit.no_file 0 → after ≡ before
+      → IsSaid fit IsDue before after it
   -- memory ran out
-  lacking : are_fit texts ≡ true → it ≡ answer_with exit.no_memory 0 → after ≡ before
-      → IsSaid texts IsDue before after it
+  lacking : fit ≡ true → it ≡ answer_with exit.no_memory 0 → after ≡ before
+      → IsSaid fit IsDue before after it

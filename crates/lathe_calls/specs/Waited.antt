@@ -12,9 +12,10 @@ use Rattle.wait_verify.specs.Verdict.{Judged, IsTold, IsRefusalOf}
 use Rattle.lathe_calls.specs.Answers.{Answer, tells, nothing}
 use Rattle.lathe_calls.specs.Statuses as exit
 
--- the question that is asked of the texts: they, and which programs are outside
+-- the question that is asked of the texts: they, which programs are outside, and at first no free
+-- block-skip switch on
 abbrev pub asked_of : Option Outside → Texts → Asked
-asked_of outside texts = record { texts = texts; outside = outside }
+asked_of outside texts = record { texts = texts; outside = outside; position = 0 }
 
 -- status 0 and the meetings of a pair that is accepted for its waits; status 1 and the line of a
 -- refusal; nothing if memory runs out

@@ -3,7 +3,7 @@
 //! specs/Events.antt, with the numbers once more. handing.rt, happening.rt, listing.rt and
 //! ordering.rt use it.
 ghost use Rattle.std.specs.Prelude.{◌≡◌};
-ghost use Rattle.lathe_calls.specs.Events.{alarm_event, arc_event, bare_event, coded_event, counting_event, flag, move_event, moving_event, placed_event};
+ghost use Rattle.lathe_calls.specs.Events.{alarm_event, arc_event, bare_event, coded_event, counting_event, flag, move_event, moving_event, placed_event, begin_stamp, home_event, shift_event, way_event};
 
 use nc_moves::{Alarm, Centre, Move};
 use nc_number::{Path, Point};
@@ -43,6 +43,12 @@ pub enum Kind {
     Alarm = 14,
     /// The block of the path read a shared variable, and is not done yet. It makes no record.
     Read = 15,
+    /// The shift in force, where it begins and where a block changed it.
+    Shift = 16,
+    /// Where the path comes home.
+    Home = 17,
+    /// The block changed whether the spindle keeps a surface speed, and says no speed.
+    Way = 18,
 }
 
 /// An event of a run. What its kind has no use for is 0. Points are in machine coordinates, lengths
@@ -129,16 +135,46 @@ pub(crate) fn coded_event(at: Stamp, kind: Kind, code: u16) -> Event
     }
 }
 
+/// When and where a path begins.
+pub(crate) fn begin_stamp(path: Path) -> Stamp
+    ensures { result ≡ begin_stamp path }
+{
+    Stamp {
+        records: 0,
+        path,
+        line: 0,
+    }
+}
+
 /// The event that the turret of a path stands at a point before its first block.
 pub(crate) fn placed_event(path: Path, to: Point) -> Event
     ensures { result ≡ placed_event path to }
 {
-    let at = Stamp {
-        records: 0,
-        path,
-        line: 0,
-    };
-    moving_event(at, Kind::Placed, to)
+    moving_event(begin_stamp(path), Kind::Placed, to)
+}
+
+/// The event that a path comes home at a point.
+pub(crate) fn home_event(path: Path, at: Point) -> Event
+    ensures { result ≡ home_event path at }
+{
+    moving_event(begin_stamp(path), Kind::Home, at)
+}
+
+/// The event that a shift is in force.
+pub(crate) fn shift_event(at: Stamp, by: Point) -> Event
+    ensures { result ≡ shift_event at by }
+{
+    moving_event(at, Kind::Shift, by)
+}
+
+/// The event that the spindle keeps a surface speed from here on, or no longer.
+pub(crate) fn way_event(at: Stamp, surface: bool) -> Event
+    ensures { result ≡ way_event at surface }
+{
+    Event {
+        at_surface: flag(surface),
+        ..bare_event(at, Kind::Way)
+    }
 }
 
 /// The event that a path raised an alarm.

@@ -1,6 +1,5 @@
 //! How a caller gets what is due: the front of it in the caller's room, and the length of the
 //! whole.
-//! For this crate alone: answering.rt and happening.rt use it.
 ghost use Rattle.std.specs.Prelude.{◌≡◌, length};
 ghost use Rattle.lathe_calls.specs.Said.{IsHanded, room_with, answer_with};
 
@@ -31,7 +30,7 @@ fn hand_out_events(list: &[Event], room: &mut [Event]) -> usize
 }
 
 /// Hands out a text that was told with this status. If memory ran out, nothing is handed out.
-pub(crate) fn hand_text(status: u8, text: &[u8], room: &mut [u8]) -> Said
+pub fn hand_text(status: u8, text: &[u8], room: &mut [u8]) -> Said
     ensures { IsHanded status text.now room.old room.new result }
 {
     if status == Status::NoMemory as u8 {

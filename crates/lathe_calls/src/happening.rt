@@ -1,24 +1,27 @@
 //! The events of a run in the order of turns that the caller gives, and what is due if the texts or
 //! the order are no good.
-ghost use Rattle.std.specs.Prelude.{◌≡◌, true, [], IfOk, map};
+ghost use Rattle.std.specs.Prelude.{◌≡◌, true, [], ◌++◌, IfOk, OnOk, map};
 ghost use Rattle.nc_number.specs.declared.fault.Failing.TheVariants.{Fault};
 ghost use Rattle.two_path.specs.Turns.{tapes_of};
 ghost use Rattle.two_path.specs.Start.{machine_at_start};
 ghost use Rattle.lathe_calls.specs.Statuses as exit;
 ghost use Rattle.lathe_calls.specs.Texts.{are_fit, texts_of};
-ghost use Rattle.lathe_calls.specs.Order.{AreDue, AreEventsFrom, AreEventsOf, AreToldOf, path_at, placed_events};
+ghost use Rattle.lathe_calls.specs.Order.{AreDue, AreEventsFrom, AreEventsOf, AreToldOf, first_events, path_at, path_begins};
 
 use crate::ending::{Status, reason_status};
-use crate::event::{Event, placed_event};
+use crate::event::{Event, begin_stamp, home_event, placed_event, shift_event};
 use crate::handing::hand_events;
+use crate::listing::push_event;
 use crate::ordering::{end_after, give_turns, is_order};
 use crate::pair_texts::PairTexts;
 use crate::said::Said;
 use cell_settings::Settings;
-use nc_number::{Failing, NoMemory, Path};
+use nc_number::{Both, Failing, NoMemory, Path, Point};
 use nc_verify::{Refusal, Verified, verdict};
+use path_state::PathState;
 use std::alloc::Global;
 use tape_flow::Flow;
+use trace_list::{homes_of, look_of};
 use two_path::{Machine, a_machine_begins_without_waits, histories_are_runs};
 
 /// Events, and the status that goes with them.
@@ -41,13 +44,34 @@ fn nothing_happened(alloc: Global, status: u8) -> Happened
     }
 }
 
-/// The first two events: where both turrets stand before their first blocks.
-fn first_events(alloc: Global, machine: &Machine) -> Result<Vec<Event>, NoMemory>
-    ensures { IfOk result (λ list. list.items ≡ placed_events machine.now.machine) }
+/// Lists how a path begins that comes home at this point.
+fn push_begin(
+    list: &mut Vec<Event>,
+    path: Path,
+    at: &PathState,
+    home: Point,
+) -> Result<(), NoMemory>
+    requires { home ≡ at.now.fixed.home }
+    ensures { OnOk result (list.new.items ≡ list.old.items ++ path_begins path at.now) }
+{
+    push_event(list, placed_event(path, at.position()))?;
+    push_event(list, home_event(path, home))?;
+    push_event(list, shift_event(begin_stamp(path), look_of(at).shift))
+}
+
+/// The first events: how both paths begin.
+fn first_events(
+    alloc: Global,
+    machine: &Machine,
+    homes: Both<Point>,
+) -> Result<Vec<Event>, NoMemory>
+    requires one { homes.one ≡ machine.now.machine.paths.one.path.fixed.home }
+    requires two { homes.two ≡ machine.now.machine.paths.two.path.fixed.home }
+    ensures { IfOk result (λ list. list.items ≡ first_events machine.now.machine) }
 {
     let mut list = Vec::new(alloc);
-    list.push(placed_event(Path::One, machine.path(Path::One).position()))?;
-    list.push(placed_event(Path::Two, machine.path(Path::Two).position()))?;
+    push_begin(&mut list, Path::One, machine.path(Path::One), homes.one)?;
+    push_begin(&mut list, Path::Two, machine.path(Path::Two), homes.two)?;
     Ok(list)
 }
 
@@ -66,7 +90,7 @@ fn events_in(
     histories_are_runs();
     a_machine_begins_without_waits();
     let mut machine = Machine::new(alloc, left, right, settings)?;
-    let mut list = first_events(alloc, &machine)?;
+    let mut list = first_events(alloc, &machine, homes_of(settings))?;
     give_turns(
         &mut list,
         &mut machine,

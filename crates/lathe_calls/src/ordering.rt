@@ -7,13 +7,14 @@ ghost use Rattle.two_path.specs.Histories.{run, turns_of};
 ghost use Rattle.two_path.specs.Joined.{AreAtTheirWaits};
 ghost use Rattle.trace_list.specs.Trace.{line_of};
 ghost use Rattle.lathe_calls.specs.Order.{end_after, events_from, turns_given, is_order, path_at};
-ghost use Rattle.lathe_calls.specs.Events.{stamp_of, turn_events};
+ghost use Rattle.lathe_calls.specs.Events.{events_of_turn};
 
 use crate::event::{Event, Stamp};
 use crate::listing::push_turn;
 use nc_number::{NoMemory, Path};
 use nc_outside::Reason;
 use tape_flow::Flow;
+use trace_list::look_of;
 use two_path::Machine;
 
 /// Whether each byte of the order names a path.
@@ -51,21 +52,22 @@ fn give_turn(
     requires few { machine.old.machine.count < MOST_RECORDS }
     requires waits { AreAtTheirWaits left.now.order right.now.order machine.old.machine }
     ensures list { OnOk result (list.new.items ≡ list.old.items
-        ++ turn_events (stamp_of (tapes_of left.now right.now) path machine.old.machine)
-        (turn_of (tapes_of left.now right.now) path machine.old.machine).turn) }
+        ++ events_of_turn (tapes_of left.now right.now) path machine.old.machine) }
     ensures machine { OnOk result (machine.new.machine
         ≡ (turn_of (tapes_of left.now right.now) path machine.old.machine).machine) }
     ensures waits { OnOk result (AreAtTheirWaits left.now.order right.now.order machine.new.machine) }
 {
     machine.reserve(1)?;
     let line = line_of(machine, left, right, path);
+    let before = look_of(machine.path(path));
     let turned = machine.turn(left, right, path);
+    let after = look_of(machine.path(path));
     let at = Stamp {
         records: machine.count(),
         path,
         line,
     };
-    push_turn(list, at, &turned.turn)
+    push_turn(list, at, &before, &after, &turned.turn)
 }
 
 /// Gives the paths their turns in this order, as long as there are fewer records than there may be,

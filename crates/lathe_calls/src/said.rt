@@ -16,7 +16,7 @@ pub struct Said {
 
 impl Said {
     /// There is nothing to hand out, only this status.
-    pub(crate) fn nothing(status: u8) -> Said
+    pub fn nothing(status: u8) -> Said
         ensures { result ≡ answer_with status 0 }
     {
         Said { status, len: 0 }

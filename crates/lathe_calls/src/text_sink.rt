@@ -1,5 +1,5 @@
 //! A sink that is a text in memory.
-//! For this crate alone: `answer` (answering.rt) has its text written there before it hands it out.
+//! `answer` (answering.rt) has its text written there before it hands it out.
 ghost use Rattle.std.specs.Prelude.{◌≡◌, ◌≢◌, [], ◌++◌, Err, if◌then◌else◌, is_ok};
 ghost use Rattle.lathe_calls.specs.Texts.{sink_with};
 
@@ -9,7 +9,7 @@ use std::marker::Model;
 
 /// A text in memory. It fails only if memory runs out.
 #[derive(Drop)]
-pub(crate) struct TextSink {
+pub struct TextSink {
     /// The bytes of the text.
     bytes: Vec<u8>,
 }
@@ -24,7 +24,7 @@ impl Model for TextSink {
 
 impl TextSink {
     /// A text without a byte.
-    pub(crate) fn empty(alloc: Global) -> Self
+    pub fn empty(alloc: Global) -> Self
         ensures { result ≡ [] }
     {
         TextSink {
@@ -33,7 +33,7 @@ impl TextSink {
     }
 
     /// What was written.
-    pub(crate) fn as_slice(&self) -> &[u8]
+    pub fn as_slice(&self) -> &[u8]
         ensures { result.now ≡ self.now }
     {
         self.bytes.as_slice()

@@ -8,13 +8,15 @@ use Rattle.nc_number.specs.declared.fault.Failing.TheVariants.{Fault, NoMemory}
 use Rattle.nc_outside.specs.Faults.{Rose}
 use Rattle.nc_outside.specs.Files.{Files, ShelfState, HoldsMore, HoldsOn, Lacks, file_named}
 use Rattle.block_order.specs.Answers.{IfFault}
+use Rattle.nc_verify.specs.Verdict.{Texts}
 use Rattle.lathe_calls.specs.Texts.{three_texts}
 use Rattle.lathe_calls.specs.declared.pair_texts.TheConstants.{LONGEST_SETTINGS}
 use Rattle.lathe_looks.specs.declared.fetching.FileFault.{FileFault}
-use Rattle.lathe_looks.specs.declared.files.CommandFile.TheVariants.{Settings}
+use Rattle.lathe_looks.specs.declared.files.CommandFile.TheVariants.{Settings, Tape, Zones}
 use Rattle.lathe_looks.specs.declared.fetching.Unfetched.{Unfetched}
 use Rattle.lathe_calls.specs.Answers.{Answer}
-use Rattle.lathe_looks.specs.Named.{Named, files_of, most_bytes, named_file, only_text, pair_texts, settings_named, tapes_of}
+use Rattle.lathe_looks.specs.Named.{Named, files_of, most_bytes, named_file, only_text, pair_texts, settings_named, tape_texts, tape_with_settings, tapes_of, with_zones, zones_and_pair, zones_before}
+use Rattle.tape_calls.specs.Texts.{tape_and_settings}
 use Rattle.lathe_looks.specs.Fetched.{AreAsked, AreHad, AreReadAs, AreSome, AreTexts, FileCause, failed, absent, too_long, IsNotHad, IsOfFiles, answers, not_had, unread, IsText, IsUnfetched, Reaches, file_of, unfetched_answer}
 
 -- The line of the file that can't be read is due to a command of these files.
@@ -148,6 +150,51 @@ pair_had old middle new l r settings a b c had same read = record {
   };
   are = ap (three_texts a b) read.are;
 }
+
+-- If a file has a text, then why the files after it have none is why all of them have none.
+pub behind_one : (old middle new : ShelfState) (one : Named) (a : List ℕ) (more : List Named) (error : Failing Unfetched)
+    → IsText old.files one a → AreAsked old.asked middle.asked (one ∷ []) → HoldsOn old middle → old.faults ≤ middle.faults
+    → IsUnfetched middle new more error → IsUnfetched old new (one ∷ more) error
+behind_one old middle new one a more (Fault missing) had asked same later is = record {
+  before = suc is.before;
+  reached = ((a, had), subst (λ told. Reaches told (file_of missing) more is.before) same is.reached);
+  cause = cause_before old middle new (file_of missing) missing.fault same later is.cause;
+  asked = asked_more old.asked middle.asked new.asked (one ∷ []) (take (suc is.before) more) asked is.asked;
+}
+behind_one old middle new one a more NoMemory had asked same later is =
+    (suc is.0, asked_more old.asked middle.asked new.asked (one ∷ []) (take is.0 more) asked is.1)
+
+-- A file with its text, before files as they were read, is read with them.
+pub one_more_had : {A B : Type 0} (read : List (List ℕ) → A) (all : List (List ℕ) → B) (with : A → B) (old middle new : ShelfState) (one : Named)
+    (files : List Named) (a : List ℕ) (value : A) → IsText old.files one a → AreAsked old.asked middle.asked (one ∷ [])
+    → middle.faults ≡ old.faults → HoldsOn old middle → AreReadAs read middle new files value
+    → ((texts : List (List ℕ)) → all (a ∷ texts) ≡ with (read texts)) → AreReadAs all old new (one ∷ files) (with value)
+one_more_had read all with old middle new one files a value had asked calm same are_read each = record {
+  texts = a ∷ are_read.texts;
+  had = record {
+    each = (had, subst (λ told. AreTexts told files are_read.texts) same are_read.had.each);
+    calm = are_read.had.calm ∙ calm;
+    asked = asked_more old.asked middle.asked new.asked (one ∷ []) files asked are_read.had.asked;
+  };
+  are = each are_read.texts ∙ ap with are_read.are;
+}
+
+-- A text of zones, and the texts of a pair as they were read, are a pair with zones.
+pub zones_and_pair_had : (old middle new : ShelfState) (name : List ℕ) (files : List Named) (a : List ℕ) (pair : Texts)
+    → IsText old.files (named_file Zones name) a → AreAsked old.asked middle.asked (named_file Zones name ∷ []) → middle.faults ≡ old.faults
+    → HoldsOn old middle → AreReadAs pair_texts middle new files pair
+    → AreReadAs zones_and_pair old new (zones_before name files) (with_zones a pair)
+zones_and_pair_had old middle new name files a pair had asked calm same read =
+    one_more_had pair_texts zones_and_pair (with_zones a) old middle new (named_file Zones name) files a pair had asked calm same read (λ texts. refl)
+
+-- A tape with its text, and the settings as they were read, are the texts of a tape.
+pub tape_and_settings_had : (old middle new : ShelfState) (name : List ℕ) (settings : Option (List ℕ)) (a c : List ℕ)
+    → IsText old.files (named_file Tape name) a → AreAsked old.asked middle.asked (named_file Tape name ∷ []) → middle.faults ≡ old.faults
+    → HoldsOn old middle → AreReadAs only_text middle new (settings_named settings) c
+    → AreReadAs tape_texts old new (tape_with_settings name settings) (record { tape = a; settings = c })
+tape_and_settings_had old middle new name settings a c had asked calm same read =
+    one_more_had only_text tape_texts (tape_and_settings a) old middle new (named_file Tape name) (settings_named settings) a c had asked calm same read
+    (λ texts. refl)
 
 -- Settings whose file was had are read as its text.
 pub settings_had : {V E : Type 0} (items : V → List ℕ) (old new : ShelfState) (name : List ℕ) (result : Result V E)

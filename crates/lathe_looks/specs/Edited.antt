@@ -1,6 +1,8 @@
 -- What `edit` answers if the text of edits is no good, and which edits a file has. A file that
 -- can't be read is in Fetched; what edits do to a run is in run_edits.
-use Rattle.std.specs.Prelude.{◌≡◌, ℕ, List, [], ◌∷◌, ◌++◌, codes, decimal, Ok, Err}
+use Rattle.std.specs.Prelude.{◌≡◌, ℕ, List, [], ◌∷◌, Ok, Err}
+use Rattle.nc_number.specs.declared.cause.Cause.TheVariants.{BadEdit}
+use Rattle.text_pieces.specs.Refusals.{refused_line_text}
 use Rattle.edit_texts.specs.declared.edit_list.PathEdit.{PathEdit}
 use Rattle.edit_texts.specs.Edits.{edits_of}
 use Rattle.nc_outside.specs.Files.{ShelfState}
@@ -9,10 +11,9 @@ use Rattle.lathe_calls.specs.Statuses as exit
 use Rattle.lathe_looks.specs.Fetched.{AreHad}
 use Rattle.lathe_looks.specs.Named.{edits_named}
 
--- The line of output for a text of edits whose line `line` is refused, as `refused 91 BadEdit line
--- 2`. The number and the name are those of the table of causes, and change with it.
-unfoldable pub bad_edit_text : ℕ → List ℕ
-bad_edit_text line = codes "refused 91 " ++ (codes "BadEdit line " ++ (decimal line ++ codes "\n"))
+-- The line of output for a text of edits whose line `line` is refused.
+abbrev pub bad_edit_text : ℕ → List ℕ
+bad_edit_text line = refused_line_text BadEdit line
 
 -- Status 1 and the first line that is not allowed; or no text, if memory ran out.
 pub data IsUnedited (text : List ℕ) : Answer → Type 0 where

@@ -1,9 +1,10 @@
 -- The files that a command names: which kinds there are, how long each may be, and the lists in
 -- which they are read.
-use Rattle.std.specs.Prelude.{ℕ, List, [], ◌∷◌, Option, Some, None, get_or}
+use Rattle.std.specs.Prelude.{ℕ, List, [], ◌∷◌, Option, Some, None, drop, get_or}
 use Rattle.nc_number.specs.declared.limits.TheConstants.{LONGEST_TAPE}
 use Rattle.nc_verify.specs.Verdict.{Texts}
 use Rattle.lathe_calls.specs.declared.pair_texts.TheConstants.{LONGEST_SETTINGS}
+use Rattle.tape_calls.specs.Texts.{TapeView, tape_and_settings}
 use Rattle.lathe_looks.specs.declared.files.CommandFile.{CommandFile}
 use Rattle.lathe_looks.specs.declared.files.CommandFile.TheVariants.{Left, Right, Settings, Tape, Zones, Edits}
 
@@ -45,9 +46,17 @@ files_of left right settings = named_file Left left ∷ named_file Right right �
 abbrev pub tape_named : List ℕ → List Named
 tape_named name = named_file Tape name ∷ []
 
+-- The files of `plain`: the tape, and the settings if they are named.
+abbrev pub tape_with_settings : List ℕ → Option (List ℕ) → List Named
+tape_with_settings name settings = named_file Tape name ∷ settings_named settings
+
 -- The one file of `zones`.
 abbrev pub zones_named : List ℕ → List Named
 zones_named name = named_file Zones name ∷ []
+
+-- The files of `zones` with a pair: the text of zones before those of the pair.
+abbrev pub zones_before : List ℕ → List Named → List Named
+zones_before name files = named_file Zones name ∷ files
 
 -- The one file of `edit`.
 abbrev pub edits_named : List ℕ → List Named
@@ -56,6 +65,25 @@ edits_named name = named_file Edits name ∷ []
 -- The texts of a pair, from those of its files in their order. Settings that no file has are empty.
 abbrev pub pair_texts : List (List ℕ) → Texts
 pair_texts texts = record { left = get_or texts 0 []; right = get_or texts 1 []; settings = get_or texts 2 [] }
+
+-- The texts of `plain`, from those of its files in their order. Settings that no file has are empty.
+abbrev pub tape_texts : List (List ℕ) → TapeView
+tape_texts texts = tape_and_settings (get_or texts 0 []) (get_or texts 1 [])
+
+-- A text of zones, and the texts of a pair.
+pub record PairWithZones : Type 0 where
+  -- the text of zones
+  pub zones : List ℕ
+  -- the texts of the pair
+  pub pair : Texts
+
+-- A text of zones before the texts of a pair.
+abbrev pub with_zones : List ℕ → Texts → PairWithZones
+with_zones zones pair = record { zones = zones; pair = pair }
+
+-- The text of zones and the texts of a pair, from those of their files in their order.
+abbrev pub zones_and_pair : List (List ℕ) → PairWithZones
+zones_and_pair texts = with_zones (get_or texts 0 []) (pair_texts (drop 1 texts))
 
 -- The text of the one file of a list; of none it is empty.
 abbrev pub only_text : List (List ℕ) → List ℕ

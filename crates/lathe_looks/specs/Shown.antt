@@ -11,7 +11,7 @@ use Rattle.nc_verify.specs.declared.verified.Verified.{Verified}
 use Rattle.run_records.specs.Entries.{Entry}
 use Rattle.lathe_looks.specs.declared.showing.Showing.{Showing}
 use Rattle.lathe_looks.specs.declared.showing.Showing.TheVariants.{Moves, State}
-use Rattle.lathe_calls.specs.Answers.{Answer, tells, nothing}
+use Rattle.lathe_calls.specs.Answers.{Answer, IsJust, tells, nothing}
 use Rattle.lathe_calls.specs.Reported.{state_of}
 use Rattle.lathe_looks.specs.Standing.{moves_text}
 use Rattle.lathe_calls.specs.Statuses as exit
@@ -34,11 +34,15 @@ abbrev pub shown_text : Showing → Verified → List Entry → List ℕ
 shown_text Moves = moves_text
 shown_text State = state_of
 
--- What a command answers that looks for a run on the disk and shows its history by `text_of`: why
--- none is found, or that text. It writes nothing to the disk.
-pub data IsShown (text_of : Verified → List Entry → List ℕ) (old new : DiskState) : Answer → Type 0 where
+-- What is due to a history of a pair of which this is shown: status 0 and that text.
+abbrev pub IsShowing : Showing → Verified → List Entry → Answer → Type 0
+IsShowing showing pair entries = IsJust (tells exit.done (shown_text showing pair entries))
+
+-- What a command answers that looks for a run on the disk and tells what is due to its history: why
+-- none is found, or what is due. It writes nothing to the disk.
+pub data IsShown (IsDue : Verified → List Entry → Answer → Type 0) (old new : DiskState) : Answer → Type 0 where
   -- no run is found
-  unshown : (fault : RestartFault) → Recovers old new (Err fault) → IsShown text_of old new (unfound_answer fault)
-  -- the text of the history that is found
-  shown : (found : FoundRun) (pair : Verified) → IsPairOf (texts_of found.header) pair → IsHistory pair found.entries
-      → Recovers old new (Ok found) → IsShown text_of old new (tells exit.done (text_of pair found.entries))
+  unshown : (fault : RestartFault) → Recovers old new (Err fault) → IsShown IsDue old new (unfound_answer fault)
+  -- what is due to the history that is found
+  shown : (found : FoundRun) (pair : Verified) {answer : Answer} → IsPairOf (texts_of found.header) pair → IsHistory pair found.entries
+      → Recovers old new (Ok found) → IsDue pair found.entries answer → IsShown IsDue old new answer

@@ -34,7 +34,7 @@ pub fn ask<H: Shelf, K: Sink>(
 }
 
 /// The three texts as lathe_calls takes them.
-fn lent(texts: &Texts) -> PairTexts<'_>
+pub(crate) fn lent(texts: &Texts) -> PairTexts<'_>
     ensures { lent_texts result ≡ texts_of texts.now }
 {
     PairTexts::of(

@@ -11,10 +11,10 @@ ghost use Rattle.lathe_looks.specs.Named.{only_text, edits_named};
 use crate::fetching::{fetch_edits, tell_unfetched};
 use edit_texts::{EditFault, EditList, read_edits};
 use lathe_calls::{Status, write_text};
-use nc_number::Failing;
+use nc_number::{Cause, Failing};
 use nc_outside::{Shelf, Sink};
 use std::alloc::Global;
-use text_pieces::Piece;
+use text_pieces::refused_at;
 
 /// The edits of a file. If the file can't be read or has a bad line, that is written, and the error
 /// is the exit status; if memory ran out, nothing is written.
@@ -50,27 +50,13 @@ fn edits_of_text<K: Sink>(alloc: Global, text: &[u8], out: &mut K) -> Result<Edi
     }
 }
 
-/// Writes the line `refused 91 ..` for this fault, and gives the exit status.
+/// Writes the line of the refusal for this fault, and gives the exit status.
 fn tell_bad_edit<K: Sink>(fault: EditFault, out: &mut K) -> u8
     ensures { Ends (IsJust (tells exit.refused (bad_edit_text fault.line))) (K.state out.old) (K.state out.new) result }
 {
     write_text(
         out,
-        bad_edit_line(fault.line).as_slice(),
+        refused_at(Cause::BadEdit, fault.line).as_slice(),
         Status::Refused as u8,
     )
-}
-
-/// The line `refused 91 ..` for this line of the text. It takes no memory. The number and the name
-/// are those of the table of causes, and change with it.
-#[tactic(auto, unfolding(crate::specs::Edited::bad_edit_text))]
-fn bad_edit_line(line: u32) -> Piece
-    ensures { result ≡ bad_edit_text line }
-{
-    let mut piece = Piece::empty();
-    piece.add(b"refused 91 ");
-    piece.add(b"BadEdit line ");
-    piece.add_number(u64::from(line));
-    piece.add(b"\n");
-    piece
 }

@@ -5,8 +5,9 @@ ghost use Rattle.block_order.specs.Answers.{IfFault};
 ghost use Rattle.nc_outside.specs.Files.{HoldsOn};
 ghost use Rattle.lathe_calls.specs.Answers.{Ends, IsJust, tells};
 ghost use Rattle.lathe_calls.specs.declared.pair_texts.TheConstants.{LONGEST_SETTINGS};
-ghost use Rattle.lathe_looks.specs.Named.{edits_named, named_file, only_text, pair_texts, settings_named, tape_named, zones_named};
+ghost use Rattle.lathe_looks.specs.Named.{edits_named, named_file, only_text, pair_texts, settings_named, tape_named, tape_texts, tape_with_settings, with_zones, zones_and_pair, zones_before, zones_named};
 ghost use Rattle.lathe_looks.specs.Texts.{AreShort, files_in, tape_files, texts_of};
+ghost use Rattle.tape_calls.specs.Texts.{tape_and_settings};
 ghost use Rattle.lathe_looks.specs.Fetched.{AreAsked, AreHad, AreReadAs, FileCause, IsText, IsUnfetched, fault_status, fault_text, file_of, unfetched_answer};
 
 use crate::files::{CommandFile, FileNames};
@@ -45,6 +46,24 @@ pub struct Texts {
     pub tapes: Both<Vec<u8>>,
     /// The text of the settings.
     pub settings: Vec<u8>,
+}
+
+/// The texts of a tape and of its settings, as they were read.
+#[derive(Drop)]
+pub(crate) struct ReadTape {
+    /// The text of the tape.
+    pub(crate) tape: Vec<u8>,
+    /// The text of the settings.
+    pub(crate) settings: Vec<u8>,
+}
+
+/// A text of zones and the texts of a pair, as they were read.
+#[derive(Drop)]
+pub(crate) struct ReadZones {
+    /// The text of zones.
+    pub(crate) zones: Vec<u8>,
+    /// The texts of the pair.
+    pub(crate) pair: Texts,
 }
 
 /// The text of one file from the shelf. Errors: why it can't be read, or out of memory.
@@ -160,6 +179,31 @@ pub(crate) fn fetch_tape<'a, H: Shelf>(
     }
 }
 
+/// The texts of the tape of `plain` and then of the settings; without a name of settings they are
+/// empty, and the shelf is not asked for any. Errors: the first file that can't be read, or out of
+/// memory.
+pub(crate) fn fetch_tape_texts<'a, H: Shelf>(
+    alloc: Global,
+    shelf: &mut H,
+    name: &'a str,
+    settings: Option<&'a str>,
+) -> Result<ReadTape, Failing<Unfetched<'a>>>
+    ensures texts { IfOk result (λ texts. AreReadAs tape_texts (H.state shelf.old) (H.state shelf.new)
+        (tape_with_settings name.now (option_map (λ s. s.now) settings.entry)) (tape_and_settings texts.tape.items texts.settings.items)) }
+    ensures short { IfOk result (λ texts. length texts.settings.items ≤ LONGEST_SETTINGS) }
+    ensures not_had { IfErr result (IsUnfetched (H.state shelf.old) (H.state shelf.new)
+        (tape_with_settings name.now (option_map (λ s. s.now) settings.entry))) }
+{
+    let tape = match fetch(alloc, shelf, CommandFile::Tape, name) {
+        Ok(text) => text,
+        Err(error) => return Err(error),
+    };
+    match fetch_settings(alloc, shelf, settings) {
+        Ok(settings) => Ok(ReadTape { tape, settings }),
+        Err(error) => Err(error),
+    }
+}
+
 /// The text of the file of zones. Errors: why it can't be read, or out of memory.
 pub(crate) fn fetch_zones<'a, H: Shelf>(
     alloc: Global,
@@ -173,6 +217,31 @@ pub(crate) fn fetch_zones<'a, H: Shelf>(
 {
     match fetch(alloc, shelf, CommandFile::Zones, name) {
         Ok(text) => Ok(text),
+        Err(error) => Err(error),
+    }
+}
+
+/// The text of the file of zones, and then the texts of a pair. Errors: the first file that can't be
+/// read, or out of memory.
+pub(crate) fn fetch_zoned_pair<'a, H: Shelf>(
+    alloc: Global,
+    shelf: &mut H,
+    name: &'a str,
+    names: &FileNames<'a>,
+) -> Result<ReadZones, Failing<Unfetched<'a>>>
+    ensures texts { IfOk result (λ texts. AreReadAs zones_and_pair (H.state shelf.old) (H.state shelf.new)
+        (zones_before name.now (files_in names.now)) (with_zones texts.zones.items (texts_of texts.pair))) }
+    ensures zones { IfOk result (λ texts. length texts.zones.items ≤ LONGEST_SETTINGS) }
+    ensures short { IfOk result (λ texts. AreShort (texts_of texts.pair)) }
+    ensures not_had { IfErr result (IsUnfetched (H.state shelf.old) (H.state shelf.new)
+        (zones_before name.now (files_in names.now))) }
+{
+    let zones = match fetch(alloc, shelf, CommandFile::Zones, name) {
+        Ok(text) => text,
+        Err(error) => return Err(error),
+    };
+    match fetch_texts(alloc, shelf, names) {
+        Ok(pair) => Ok(ReadZones { zones, pair }),
         Err(error) => Err(error),
     }
 }

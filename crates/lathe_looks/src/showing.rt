@@ -3,7 +3,7 @@
 ghost use Rattle.nc_restart.specs.Recovered.{IsRecovered};
 ghost use Rattle.nc_verify.specs.Printed.{IsPut};
 ghost use Rattle.lathe_calls.specs.Answers.{Ends};
-ghost use Rattle.lathe_looks.specs.Shown.{IsShown, shown_text};
+ghost use Rattle.lathe_looks.specs.Shown.{IsShowing, IsShown, shown_text};
 
 use crate::refusing::tell_unfound;
 use crate::standing::reason_of;
@@ -35,7 +35,7 @@ pub struct Shown<D: Disk> {
 
 /// Writes the text that is asked for of the run whose journal is on the disk, or why there is none.
 pub fn show<D: Disk, K: Sink>(alloc: Global, showing: Showing, disk: D, out: &mut K) -> Shown<D>
-    ensures { Ends (IsShown (shown_text showing) (D.state disk) (D.state result.disk))
+    ensures { Ends (IsShown (IsShowing showing) (D.state disk) (D.state result.disk))
         (K.state out.old) (K.state out.new) result.status }
 {
     match recover(alloc, disk) {

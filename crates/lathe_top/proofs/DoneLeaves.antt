@@ -68,10 +68,10 @@ module _ {D : Type 0} (state : D → DiskState) where
   files_left limit text_of files old new answer (answers texts are run) = run_left limit text_of (pair_texts texts) old.lathe new.lathe answer run
 
   -- a command that only shows the journal leaves what its kind may leave
-  look_left : (text_of : Verified → List Entry → List ℕ) (old new : LatheState) (answer : Answer) → IsShown text_of old.disk new.disk answer
+  look_left : (IsDue : Verified → List Entry → Answer → Type 0) (old new : LatheState) (answer : Answer) → IsShown IsDue old.disk new.disk answer
       → AreAtRest old new → OnlyLooks old new
-  look_left text_of old new answer (unshown fault recovers) rest = record { disk = inr (record { result = Err fault; recovers = recovers }); turrets = rest }
-  look_left text_of old new answer (shown found pair accepted history recovers) rest =
+  look_left IsDue old new answer (unshown fault recovers) rest = record { disk = inr (record { result = Err fault; recovers = recovers }); turrets = rest }
+  look_left IsDue old new answer (shown found pair accepted history recovers due) rest =
       record { disk = inr (record { result = Ok found; recovers = recovers }); turrets = rest }
 
   -- `zones` over the text of its file leaves what its kind may leave
@@ -155,8 +155,10 @@ module _ {D : Type 0} (state : D → DiskState) where
   due_left second command.State old new answer due = look_left _ old.lathe new.lathe answer due.0 due.1
   due_left second (command.Make number turrets) old new answer due = run_left _ _ _ old.lathe new.lathe answer due.0
   due_left second (command.Zones name) old new answer due = zones_left (zones_named name) old new answer due
+  due_left second (command.ZonesOf zones left right settings) old new answer due = due.1
   due_left second (command.Branch n) old new answer due = branch_left second n old.lathe new.lathe old.second new.second answer due.0 due.1
   due_left second (command.Expand tape) old new answer due = due.1
+  due_left second (command.Plain tape settings) old new answer due = due.1
 
   -- a command that calls neither the disk nor a turret does what any kind may
   rests_left : (asked : Kind) (old new : LatheState) → RestsWhole old new → Leaves state asked old new

@@ -13,6 +13,7 @@ use Rattle.block_forms.specs.Blocks.{block_form}
 use Rattle.cell_settings.specs.Cell.{Cell}
 use Rattle.command_words.specs.declared.command.Command.{Command}
 use Rattle.command_words.specs.declared.command.Command.TheVariants as command
+use Rattle.command_words.specs.declared.making.TheConstants.{DEFAULT_BLOCKS}
 use Rattle.disk_model.specs.Device.{DiskState, IsCoherent, Reads}
 use Rattle.disk_model.specs.Device.{Rose as DiskRose}
 use Rattle.gate_file.specs.declared.fault.GateFault.{GateFault}
@@ -55,12 +56,17 @@ use Rattle.lathe_looks.specs.declared.showing.Showing.{Showing}
 use Rattle.lathe_looks.specs.declared.showing.Showing.TheVariants.{Moves, State}
 use Rattle.tape_expand.specs.declared.fault.ExpandFault.{ExpandFault}
 use Rattle.tape_expand.specs.Faults.{expand_number}
-use Rattle.lathe_looks.specs.Expanded as expand
-use Rattle.lathe_looks.specs.Expanded.{IsExpanded, refusal_text}
+use Rattle.tape_calls.specs.Plained as plain
+use Rattle.tape_calls.specs.Plained.{IsPlained, plain_refusal_text}
+use Rattle.tape_plain.specs.Faults.{plain_number}
+use Rattle.tape_plain.specs.declared.fault.PlainTapeFault.{PlainTapeFault}
+use Rattle.tape_calls.specs.Expanded as expand
+use Rattle.tape_calls.specs.Expanded.{IsExpanded, refusal_text}
 use Rattle.lathe_looks.specs.Fetched.{AreTexts, FileCause, IsOfFiles, not_had, unread, answers, fault_status, fault_text}
 use Rattle.lathe_calls.specs.Judged as judged
 use Rattle.lathe_calls.specs.Judged.{IsJudged}
-use Rattle.lathe_looks.specs.Named.{Named, only_text, edits_named, files_of, pair_texts, tape_named, zones_named}
+use Rattle.tape_calls.specs.Texts.{TapeView}
+use Rattle.lathe_looks.specs.Named.{Named, only_text, edits_named, files_of, pair_texts, PairWithZones, tape_named, tape_texts, tape_with_settings, zones_and_pair, zones_before, zones_named}
 use Rattle.edit_texts.specs.declared.edit_list.PathEdit.{PathEdit}
 use Rattle.lathe_looks.specs.Edited.{bad_edit_text}
 use Rattle.lathe_top.specs.Branched as branch
@@ -69,11 +75,14 @@ use Rattle.lathe_top.proofs.BranchesDue.{branch_once}
 use Rattle.lathe_top.specs.Edited as edit
 use Rattle.lathe_top.specs.Edited.{IsEdited, IsEditedRun, IsEditOf}
 use Rattle.lathe_top.proofs.EditsDue.{agree_told, found_there, one_told, pair_there, same_told}
-use Rattle.lathe_looks.specs.Zoned.{bad_zone_text, zones_text}
-use Rattle.zone_cell.specs.Zones.{ZonesView}
+use Rattle.lathe_looks.specs.Zoned.{AreZonesFor, IsPlanned}
+use Rattle.zone_calls.specs.Due as zones
+use Rattle.zone_calls.specs.Due.{AreZonesOf}
+use Rattle.zone_calls.specs.Zoned.{bad_zone_text}
+use Rattle.zone_cell.specs.declared.plan.Plan.{Plan}
 use Rattle.lathe_top.specs.Zoned.{IsZoned, bad_zones, unread_zones, zoned}
-use Rattle.lathe_top.proofs.ZonesDue.{zones_hang}
-use Rattle.lathe_looks.specs.Shown.{IsShown, shown, unshown, unfound_answer, bad_text, shown_text}
+use Rattle.lathe_top.proofs.ZonesDue.{zones_agree, zones_hang}
+use Rattle.lathe_looks.specs.Shown.{IsShowing, IsShown, shown, unshown, unfound_answer, bad_text, shown_text}
 use Rattle.lathe_calls.specs.Reported.{report_of}
 use Rattle.lathe_looks.specs.Standing.{are_finished, is_over, reason_of}
 use Rattle.open_order.specs.declared.outside.Outside.{Outside}
@@ -81,13 +90,13 @@ use Rattle.wait_verify.specs.Asked.{Asked}
 use Rattle.wait_verify.specs.Verdict as waits
 use Rattle.wait_verify.specs.Verdict.{Judged}
 use Rattle.lathe_calls.specs.Due as due
-use Rattle.lathe_calls.specs.Due.{IsOfPair}
+use Rattle.lathe_calls.specs.Due.{AreRecordsInTurn, IsOfPair}
 use Rattle.lathe_calls.specs.Races.{IsRaceAnswer}
 use Rattle.lathe_calls.specs.Waited as waited
 use Rattle.lathe_calls.specs.Waited.{AreWaits, asked_of}
 use Rattle.lathe_top.specs.Outside.{outside_in}
 use Rattle.lathe_calls.specs.Traced as traced
-use Rattle.lathe_calls.specs.Traced.{IsTraceOf, IsTraced}
+use Rattle.lathe_calls.specs.Traced.{IsTraceOf, IsTraced, end_of}
 use Rattle.lathe_calls.specs.Statuses as exit
 use Rattle.lathe_looks.proofs.NotHad.{all_had, fault_once, missing_once, texts_once}
 use Rattle.lathe_top.specs.Lathe.{LatheState}
@@ -102,7 +111,7 @@ use Rattle.lathe_top.specs.Done as done
 use Rattle.lathe_top.specs.Done.{Call, command_of, IsDue, IsDueTo, Serves, ServesFiles, ServesKind}
 use Rattle.lathe_top.proofs.Agreed.{Agree, agree_nothing}
 use Rattle.lathe_top.proofs.RunsFound.{least_is}
-use Rattle.lathe_top.proofs.OneMeeting.{one_text}
+use Rattle.wait_verify.proofs.OneTold.{one_text}
 use Rattle.lathe_top.proofs.OneRaces.{races_of_once, same_races}
 
 -- the law that no three texts are both accepted and refused
@@ -185,14 +194,20 @@ waits_once law one outside texts a b (waited.refused {refusal} {text} denied v) 
 waits_once law one outside texts a b (waited.refused denied v) waited.unjudged = tt
 waits_once law one outside texts a b waited.unjudged other = tt
 
--- one trace is due to a pair
-trace_once : OneInTurn → (limit : ℕ) (pair other : Verified) (a b : Answer) → IsSamePair pair other → IsTraceOf limit pair a → IsTraceOf limit other b → Agree a b
-trace_once law limit pair other a b same (traced.ran entries races run are) (traced.ran others races' run' also) =
-    let there : IsInTurn (tapes_in other) (opening_of other) (min limit other.settings.records) entries =
+-- pairs that are the same have one list of records in turn
+records_once : OneInTurn → (limit : ℕ) (pair other : Verified) (entries others : List Entry) → IsSamePair pair other → AreRecordsInTurn limit pair entries
+    → AreRecordsInTurn limit other others → entries ≡ others
+records_once law limit pair other entries others same run too =
+    let there : AreRecordsInTurn limit other entries =
     subst (λ n. IsInTurn (tapes_in other) (opening_of other) (min limit n) entries) same.records
     (subst (λ (m : MachineView). IsInTurn (tapes_in other) m (min limit pair.settings.records) entries) same.opening
     (subst (λ (t : Tapes). IsInTurn t (opening_of pair) (min limit pair.settings.records) entries) same.tapes run)) in
-    let one : entries ≡ others = law (tapes_in other) _ _ (min limit other.settings.records) entries others there run' in
+    law (tapes_in other) _ _ (min limit other.settings.records) entries others there too
+
+-- one trace is due to a pair
+trace_once : OneInTurn → (limit : ℕ) (pair other : Verified) (a b : Answer) → IsSamePair pair other → IsTraceOf limit pair a → IsTraceOf limit other b → Agree a b
+trace_once law limit pair other a b same (traced.ran entries races run are) (traced.ran others races' run' also) =
+    let one : entries ≡ others = records_once law limit pair other entries others same run run' in
     let list : races ≡ races' = same_races pair other same races races' are also in (
       (λ i. reason_status (end_told (same.tapes i) (same.opening i) (same.records i) (one i))),
       (λ i. trace_text (same.tapes i) (same.opening i) (one i) (end_told (same.tapes i) (same.opening i) (same.records i) (one i))
@@ -215,19 +230,50 @@ traced_once law once machine run limit texts a b (traced.refused {refusal} {text
 traced_once law once machine run limit texts a b (traced.refused denied v) traced.untraced = tt
 traced_once law once machine run limit texts a b traced.untraced other = tt
 
+-- one answer is due to three texts, if one is due to pairs that are the same
+pair_once : (IsDue : Verified → Answer → Type 0) → NotBoth → OneRefusal → OneMachine
+    → ((pair other : Verified) (a b : Answer) → IsSamePair pair other → IsDue pair a → IsDue other b → Agree a b)
+    → (texts : Texts) (a b : Answer) → IsOfPair IsDue texts a → IsOfPair IsDue texts b → Agree a b
+pair_once IsDue law once machine alike texts a b (due.accepted pair is one) (due.accepted other is' two) =
+    alike pair other a b (machine texts pair other is is') one two
+pair_once IsDue law once machine alike texts a b (due.accepted pair is one) (due.refused {refusal} denied w) =
+    absurd (law texts _ _ _ refusal is denied)
+pair_once IsDue law once machine alike texts a b (due.accepted pair is one) due.unjudged = agree_nothing a
+pair_once IsDue law once machine alike texts a b (due.refused {refusal} denied w) (due.accepted pair is two) =
+    absurd (law texts _ _ _ refusal is denied)
+pair_once IsDue law once machine alike texts a b (due.refused {refusal} {text} denied v) (due.refused {refusal = other} {text = line} too w) =
+    (refl, line_once refusal other text line (once texts refusal other denied too) v w)
+pair_once IsDue law once machine alike texts a b (due.refused denied v) due.unjudged = tt
+pair_once IsDue law once machine alike texts a b due.unjudged other = tt
+
 -- one answer of `races` is due to three texts
 races_once : NotBoth → OneRefusal → OneMachine → (texts : Texts) (a b : Answer) → IsOfPair IsRaceAnswer texts a → IsOfPair IsRaceAnswer texts b → Agree a b
-races_once law once machine texts a b (due.accepted pair is one) (due.accepted other is' two) =
-    races_of_once pair other a b (machine texts pair other is is') one two
-races_once law once machine texts a b (due.accepted pair is one) (due.refused {refusal} denied w) =
-    absurd (law texts _ _ _ refusal is denied)
-races_once law once machine texts a b (due.accepted pair is one) due.unjudged = agree_nothing a
-races_once law once machine texts a b (due.refused {refusal} denied w) (due.accepted pair is two) =
-    absurd (law texts _ _ _ refusal is denied)
-races_once law once machine texts a b (due.refused {refusal} {text} denied v) (due.refused {refusal = other} {text = line} too w) =
-    (refl, line_once refusal other text line (once texts refusal other denied too) v w)
-races_once law once machine texts a b (due.refused denied v) due.unjudged = tt
-races_once law once machine texts a b due.unjudged other = tt
+races_once law once machine = pair_once IsRaceAnswer law once machine races_of_once
+
+-- one answer is due to what is asked for of the run of a pair
+zones_of_once : OneInTurn → (limit : ℕ) (plan : Plan) (pair other : Verified) (a b : Answer) → IsSamePair pair other → AreZonesOf limit plan pair a
+    → AreZonesOf limit plan other b → Agree a b
+zones_of_once law limit plan pair other a b same (zones.ran entries run is) (zones.ran others run' also) =
+    let one : entries ≡ others = records_once law limit pair other entries others same run run' in
+    zones_agree plan pair other same entries others (end_of pair entries) (end_of other others) one
+    (λ i. end_told (same.tapes i) (same.opening i) (same.records i) (one i)) a b is also
+zones_of_once law limit plan pair other a b same (zones.ran entries run is) zones.unran = agree_nothing a
+zones_of_once law limit plan pair other a b same zones.unran two = tt
+
+-- one answer is due to a text of zones and three texts
+zones_once : NotBoth → OneRefusal → OneMachine → OneInTurn → (limit : ℕ) (texts : PairWithZones) (a b : Answer) → AreZonesFor limit texts a
+    → AreZonesFor limit texts b → Agree a b
+zones_once law once machine run limit texts a b (zones.asked {plan} is one) (zones.asked {plan = other} too two) =
+    let same : plan ≡ other = cc in
+    pair_once (AreZonesOf limit other) law once machine (zones_of_once run limit other) texts.pair a b
+    (subst (λ (p : Plan). IsOfPair (AreZonesOf limit p) texts.pair a) same one) two
+zones_once law once machine run limit texts a b (zones.asked is one) (zones.bad_zones too) = absurd cc
+zones_once law once machine run limit texts a b (zones.asked is one) zones.unread_zones = agree_nothing a
+zones_once law once machine run limit texts a b (zones.bad_zones is) (zones.asked too two) = absurd cc
+zones_once law once machine run limit texts a b (zones.bad_zones {line} is) (zones.bad_zones {line = other} too) =
+    let same : line ≡ other = cc in (refl, ap bad_zone_text same)
+zones_once law once machine run limit texts a b (zones.bad_zones is) zones.unread_zones = tt
+zones_once law once machine run limit texts a b zones.unread_zones two = tt
 
 -- One answer is due to a command of files: if one answer is due to the texts, and if the shelf tells
 -- its files and did not fail.
@@ -265,6 +311,20 @@ expanded_once text a b (expand.refused {fault} {line} denied v) (expand.refused 
     (refl, v.2 ∙ (λ i. refusal_text (cause i) (same i)) ∙ sym w.2)
 expanded_once text a b (expand.refused denied v) expand.unexpanded = tt
 expanded_once text a b expand.unexpanded other = tt
+
+-- one answer is due to a tape that is written out under settings
+plained_once : (texts : TapeView) (a b : Answer) → IsPlained texts a → IsPlained texts b → Agree a b
+plained_once texts a b (plain.plained {bytes} is) (plain.plained {bytes = other} too) = (refl, (let one : bytes ≡ other = cc in one))
+plained_once texts a b (plain.plained is) (plain.not_plained denied v) = absurd cc
+plained_once texts a b (plain.plained is) plain.unplained = tt
+plained_once texts a b (plain.not_plained denied v) (plain.plained is) = absurd cc
+plained_once texts a b (plain.not_plained {fault} {line} denied v) (plain.not_plained {fault = fault'} {line = line'} too w) =
+    let same : fault ≡ fault' = cc in
+    let cause : v.0 ≡ w.0 =
+    one_cause (plain_number fault') v.0 w.0 (subst (λ (f : PlainTapeFault). IsCauseOf (plain_number f) v.0) same v.1) w.1 in
+    (refl, v.2 ∙ (λ i. plain_refusal_text (cause i) (same i)) ∙ sym w.2)
+plained_once texts a b (plain.not_plained denied v) plain.unplained = tt
+plained_once texts a b plain.unplained other = tt
 
 -- the same pair has the same machine after the same records
 machine_same : (pair other : Verified) (entries others : List Entry) → IsSamePair pair other → entries ≡ others
@@ -328,9 +388,15 @@ shown_hangs Moves pair other same entries =
     λ i. report_text (same.tapes i) (same.opening i) entries (reason_of (fold (same.tapes i) (same.opening i) entries))
 shown_hangs State pair other same entries = λ i. state_text (same.tapes i) (fold (same.tapes i) (same.opening i) entries)
 
--- the text that is shown of a history is the same for pairs that are the same (`IsSamePair`)
-abbrev pub ShownHangs : (Verified → List Entry → List ℕ) → Type 0
-ShownHangs text_of = (pair other : Verified) → IsSamePair pair other → (entries : List Entry) → text_of pair entries ≡ text_of other entries
+-- what is due to a history of a pair hangs on the texts of the pair alone
+abbrev pub Hangs : (Verified → List Entry → Answer → Type 0) → Type 0
+Hangs IsDue = (pair other : Verified) → IsSamePair pair other → (entries : List Entry) (a b : Answer) → IsDue pair entries a → IsDue other entries b
+    → Agree a b
+
+-- so does the answer of `moves` and of `state`
+showing_hangs : (showing : Showing) → Hangs (IsShowing showing)
+showing_hangs showing pair other same entries a b is too =
+    agree_told a b (tells 0 (shown_text showing other entries)) (inr (is ∙ ap (tells 0) (shown_hangs showing pair other same entries))) (inr too)
 
 -- the header of a journal that stands for a run; of others the one that is given
 abbrev pub header_in : Header → Meaning → Header
@@ -403,30 +469,30 @@ module _ (one_run : OneRun) (one_machine : OneMachine) (old new : DiskState) (by
       let e = one_run bytes (bad_at offset cause) (a_run header entries) (one.refused.1 bytes holds) stands in absurd (cc)
   none_found restart.NoMemory header entries one stands = refl
 
-  -- one text is due to what the journal holds
-  shown_by_once : (text_of : Verified → List Entry → List ℕ) → ShownHangs text_of → (a b : Answer) → IsShown text_of old new a → IsShown text_of old new b → Agree a b
-  shown_by_once text_of hangs a b (unshown f one) (unshown g two) = unfound_once f g one two
-  shown_by_once text_of hangs a b (unshown f one) (shown found pair is history two) =
+  -- one answer is due to what the journal holds
+  shown_by_once : (IsDue : Verified → List Entry → Answer → Type 0) → Hangs IsDue → (a b : Answer) → IsShown IsDue old new a → IsShown IsDue old new b → Agree a b
+  shown_by_once IsDue hangs a b (unshown f one) (unshown g two) = unfound_once f g one two
+  shown_by_once IsDue hangs a b (unshown f one) (shown found pair is history two due) =
       subst (λ x. Agree x b) (sym (none_found f found.header found.entries one (two.found.means bytes holds))) tt
-  shown_by_once text_of hangs a b (shown found pair is history one) (unshown g two) =
-      subst (Agree a) (sym (none_found g found.header found.entries two (one.found.means bytes holds))) tt
-  shown_by_once text_of hangs a b (shown found pair is history one) (shown found' pair' is' history' two) =
+  shown_by_once IsDue hangs a b (shown found pair is history one due) (unshown g two) =
+      subst (Agree a) (sym (none_found g found.header found.entries two (one.found.means bytes holds))) (agree_nothing a)
+  shown_by_once IsDue hangs a b (shown found pair is history one due) (shown found' pair' is' history' two due') =
       let same : a_run found.header found.entries ≡ a_run found'.header found'.entries =
       one_run bytes (a_run found.header found.entries) (a_run found'.header found'.entries) (one.found.means bytes holds) (two.found.means bytes holds) in
       let header : found.header ≡ found'.header = ap (header_in found.header) same in
       let entries : found.entries ≡ found'.entries = ap (entries_in found.entries) same in
       let pairs = pairs_same one_machine found.header found'.header pair pair' header is is' in
-      (refl, hangs pair pair' pairs found.entries ∙ ap (text_of pair') entries)
+      hangs pair pair' pairs found'.entries a b (subst (λ l. IsDue pair l a) entries due) due'
 
   -- one text of `moves`, and one of `state`, is due to the journal
-  shown_once : (showing : Showing) (a b : Answer) → IsShown (shown_text showing) old new a → IsShown (shown_text showing) old new b → Agree a b
-  shown_once showing a b one two = shown_by_once (shown_text showing) (shown_hangs showing) a b one two
+  shown_once : (showing : Showing) (a b : Answer) → IsShown (IsShowing showing) old new a → IsShown (IsShowing showing) old new b → Agree a b
+  shown_once showing a b one two = shown_by_once (IsShowing showing) (showing_hangs showing) a b one two
 
   -- one text of `zones` is due to one file of zones
-  same_zones : (zones other : ZonesView) (a b : Answer) → zones ≡ other → IsShown (zones_text zones) old new a → IsShown (zones_text other) old new b
+  same_zones : (plan other : Plan) (a b : Answer) → plan ≡ other → IsShown (IsPlanned plan) old new a → IsShown (IsPlanned other) old new b
       → Agree a b
-  same_zones zones other a b same one two =
-      shown_by_once (zones_text other) (zones_hang other) a b (subst (λ (z : ZonesView). IsShown (zones_text z) old new a) same one) two
+  same_zones plan other a b same one two =
+      shown_by_once (IsPlanned other) (zones_hang other) a b (subst (λ (p : Plan). IsShown (IsPlanned p) old new a) same one) two
 
   -- one answer of `branch` is due, over a second disk that told its bytes and did not fail
   branched_once : {E : Type 0} (second : E → DiskState) (n : ℕ) (onto left : E) (there : List ℕ) → Reads (second onto) there
@@ -582,8 +648,8 @@ module _ (one_run : OneRun) (one_machine : OneMachine) (old new : LatheState) (b
   zoned_once text a b (unread_zones rests) two = tt
   zoned_once text a b (zoned is told rest) (bad_zones too rests) = absurd cc
   zoned_once text a b (zoned is told rest) (unread_zones rests) = agree_nothing a
-  zoned_once text a b (zoned {zones} is told rest) (zoned {zones = other} too told' rest') =
-      let same : zones ≡ other = cc in same_zones one_run one_machine old.disk new.disk bytes holds calm zones other a b same told told'
+  zoned_once text a b (zoned {plan} is told rest) (zoned {plan = other} too told' rest') =
+      let same : plan ≡ other = cc in same_zones one_run one_machine old.disk new.disk bytes holds calm plan other a b same told told'
 
 -- two answers of `edit`, over one disk that made its bytes known and did not fail
 module _ (one_run : OneRun) (one_machine : OneMachine) (old new : LatheState) (bytes : List ℕ) (holds : Reads old.disk bytes)
@@ -668,12 +734,18 @@ module _ {D E : Type 0} (state : D → DiskState) (second : E → DiskState) (bo
       files_once only_text files.0.0 (zones_named name) (RestsWhole call.before.lathe call.after.lathe) (IsZoned call.before.lathe call.after.lathe)
       call.before.shelf call.after.shelf files.0.1 files.1
       (zoned_once one_run one_machine call.before.lathe call.after.lathe others.bytes others.tells others.calm) a b one two
+  due_to_once (command.ZonesOf zones l r c) a b files others one two =
+      files_once zones_and_pair files.0.0 (zones_before zones (files_of l r c)) (Unit {0}) (AreZonesFor DEFAULT_BLOCKS) call.before.shelf call.after.shelf
+      files.0.1 files.1 (zones_once both one_refusal one_machine in_turn DEFAULT_BLOCKS) a b one.0 two.0
   due_to_once (command.Branch n) a b files others one two =
       branched_once one_run one_machine call.before.lathe.disk call.after.lathe.disk others.0.bytes others.0.tells others.0.calm second n
       call.before.second call.after.second others.1.bytes others.1.tells others.1.calm a b one.0 two.0
   due_to_once (command.Expand tape) a b files others one two =
       files_once only_text files.0.0 (tape_named tape) (Unit {0}) IsExpanded call.before.shelf call.after.shelf files.0.1 files.1 expanded_once
       a b one.0 two.0
+  due_to_once (command.Plain tape settings) a b files others one two =
+      files_once tape_texts files.0.0 (tape_with_settings tape settings) (Unit {0}) IsPlained call.before.shelf call.after.shelf files.0.1 files.1
+      plained_once a b one.0 two.0
 
   -- one answer is due to a call, if the outside tells what it holds and did not fail
   pub due_once : Serves second call → (a b : Answer) → IsDue state second call a → IsDue state second call b → Agree a b

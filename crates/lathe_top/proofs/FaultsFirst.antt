@@ -70,9 +70,9 @@ module _ {D : Type 0} (state : D → DiskState) (wanted : ℕ) (old new : LatheS
   unfound_first restart.NoMemory r rest = tt
 
   -- an answer of a command that only shows the journal has the wanted status
-  shown_first : (text_of : Verified → List Entry → List ℕ) (a : Answer) → IsShown text_of old.disk new.disk a → AreAtRest old new → HasStatus wanted a
-  shown_first text_of a (unshown f r) rest = unfound_first f r rest
-  shown_first text_of a (shown found pair is history r) rest = absurd (not_calm rest (r.calm (λ fault. fault)))
+  shown_first : (IsDue : Verified → List Entry → Answer → Type 0) (a : Answer) → IsShown IsDue old.disk new.disk a → AreAtRest old new → HasStatus wanted a
+  shown_first IsDue a (unshown f r) rest = unfound_first f r rest
+  shown_first IsDue a (shown found pair is history r due) rest = absurd (not_calm rest (r.calm (λ fault. fault)))
 
   -- an answer that no journal is begun has the wanted status
   unbegun_first : (texts : Texts) (f : GateFault) → IsRefusedBeginning texts f old.disk new.disk → AreAtRest old new → HasStatus wanted (unbegun_answer f)
@@ -194,8 +194,10 @@ module _ {D E : Type 0} (state : D → DiskState) (second : E → DiskState) (wa
   command_first (command.Make n turrets) a due = run_first state wanted old new some of_disk of_turret _ _ _ a due.0
   command_first (command.Zones name) a due =
       zones_first state wanted old new some of_disk of_turret (zones_named name) call.before.shelf call.after.shelf a due
+  command_first (command.ZonesOf zones l r c) a due = absurd (not_rested state wanted old new some of_disk of_turret due.1)
   command_first (command.Branch n) a due = branched_first state wanted old new some of_disk of_turret second n _ _ a due.0 due.1
   command_first (command.Expand tape) a due = absurd (not_rested state wanted old new some of_disk of_turret due.1)
+  command_first (command.Plain tape settings) a due = absurd (not_rested state wanted old new some of_disk of_turret due.1)
 
   -- an answer of the call has the wanted status
   call_first : (a : Answer) → IsDue state second call a → HasStatus wanted a
@@ -257,9 +259,11 @@ module _ {D E : Type 0} (state : D → DiskState) (second : E → DiskState) (ca
   command_second command.Moves a due same = absurd (called same)
   command_second command.State a due same = absurd (called same)
   command_second (command.Zones name) a due same = absurd (called same)
+  command_second (command.ZonesOf zones l r c) a due same = absurd (called same)
   command_second (command.Branch n) a due same = branched_second n _ _ a due.0
   command_second (command.Make n turrets) a due same = absurd (called same)
   command_second (command.Expand tape) a due same = absurd (called same)
+  command_second (command.Plain tape settings) a due same = absurd (called same)
 
   -- the status of a call: 6, if a call of the second disk failed
   pub second_first : (a : Answer) → IsDue state second call a → HasStatus exit.disk_fault a

@@ -1,7 +1,7 @@
 -- What going on with a run comes to: a run with turrets is a session but for its opening. What is
 -- told of it is in GoingReported.
 -- GoingReported and the proof of `go_on` (src/going.rt) use it.
-use Rattle.std.proofs.Common.{◌≡◌, ◌⊎◌, inl, inr, ⊎_elim, ℕ, ◌+◌, ◌-◌, ◌*◌, ◌≤◌, max, Bool, true, false, ◌||◌, ◌&&◌, is_some, if◌then◌else◌, List, [], length, take, drop, Option, Some, None, refl, sym, ◌∙◌, ap, subst, arith}
+use Rattle.std.proofs.Common.{◌≡◌, ◌≢◌, ◌++◌, ◌⊎◌, inl, inr, ⊎_elim, ℕ, ◌+◌, ◌-◌, ◌*◌, ◌≤◌, max, Bool, true, false, ◌||◌, ◌&&◌, is_some, if◌then◌else◌, List, [], length, take, drop, Option, Some, None, refl, sym, ◌∙◌, ap, subst, arith}
 use Rattle.std.specs.Prelude.{IsTrue}
 use Rattle.std.proofs.Math.Seq.{take-append_seam, drop-append_seam, take-length}
 use Rattle.std.proofs.lemmas.List.{length-append}
@@ -17,6 +17,7 @@ use Rattle.nc_outside.specs.declared.halt.Halt.TheVariants as halt
 use Rattle.nc_outside.specs.declared.reason.Reason.{Reason}
 use Rattle.nc_outside.specs.Reasons.{end_by}
 use Rattle.nc_number.specs.declared.path.Path.{Path}
+use Rattle.nc_number.specs.declared.path.Path.TheVariants.{One, Two}
 use Rattle.nc_number.specs.Path.{other_of}
 use Rattle.nc_moves.specs.declared.alarm.Alarm.{Alarm}
 use Rattle.nc_outside.specs.declared.got.Got.{Got}
@@ -29,21 +30,24 @@ use Rattle.run_records.specs.Spelling.{entry_bytes}
 use Rattle.run_journal.specs.Batches.{records_bytes}
 use Rattle.run_journal.specs.Stands.{Holds}
 use Rattle.run_table.specs.Kept.{TableView}
-use Rattle.run_table.specs.Made.{moves_made}
+use Rattle.run_table.specs.declared.resting.Resting.{Resting}
+use Rattle.run_table.specs.declared.resting.Resting.TheVariants.{Unasked, Asked, Rests}
+use Rattle.run_table.specs.Draining.{rest_told, StandsAsTold}
+use Rattle.run_table.specs.Made.{told_made}
 use Rattle.run_table.specs.Recording.{StandsForPrefix, IsJournaled, sent_count, most_bytes}
 use Rattle.run_table.specs.Running as running
 use Rattle.run_table.specs.Running.{IsNoneOrAlarm, MayRun}
 use Rattle.run_table.specs.Since.{Since}
-use Rattle.turret_run.specs.Served.{moves_told, FailsPlace, GetsAll, GetsSome, FailsAmong, Misses}
+use Rattle.turret_run.specs.Served.{turret_told, FailsPlace, GetsAll, GetsSome, FailsAmong, Misses}
 use Rattle.turret_run.specs.Runs.{due_to_turret, due_by_all, GetsAt, GetsBeside, StandsBeside, none_missed, Stays}
-use Rattle.two_path.specs.Machine.{MachineView, position_of}
+use Rattle.two_path.specs.Machine.{MachineView, position_of, without_reads}
 use Rattle.two_path.specs.Ending.{end_of as machine_end}
 use Rattle.two_path.specs.Histories.{IsKept}
 use Rattle.nc_restart.specs.Pair.{tapes_in, opening_of, machine_behind}
 use Rattle.lathe_looks.specs.Standing.{is_over, reason_by, reason_of}
 use Rattle.lathe_top.specs.Lathe.{LatheState, lathe_with}
 use Rattle.lathe_top.specs.Session.{Session, AreMost, IsLeast, NoneFailed, EndsBy, over, full, stopped, disk_failed, turret_failed, GoesOn}
-use Rattle.lathe_top.specs.Turrets.{due_to, AreServed, AreFailed, GetTheirs, IsEnding}
+use Rattle.lathe_top.specs.Turrets.{due_to, AreAsTold, AreServed, AreFailed, GetTheirs, IsEnding}
 use Rattle.lathe_top.specs.Kept.{end_of, KeepsVersion}
 use Rattle.lathe_top.specs.Going.{KeepsGoing}
 use Rattle.lathe_top.proofs.VersionsKept.{is_disk_or_not, keeps_version}
@@ -93,6 +97,15 @@ IsLive t = (t.halt ≡ Some halt.Disk → ⊥) → IsTrue t.recording.log.file.l
 -- what stopped a table that may be run is no fault of the disk
 pub no_disk_fault : (why : Option Halt) → IsNoneOrAlarm why → why ≡ Some halt.Disk → ⊥
 no_disk_fault why may is = subst IsNoneOrAlarm is may
+
+-- what unfinished blocks have read says nothing of where a path stands
+bare_stands : (pair : Verified) (m : MachineView) (path : Path) (r : Resting) → StandsAsTold pair m path r → StandsAsTold pair (without_reads m) path r
+bare_stands pair m One Unasked stands = stands
+bare_stands pair m One (Asked code) stands = stands
+bare_stands pair m One (Rests code) stands = stands
+bare_stands pair m Two Unasked stands = stands
+bare_stands pair m Two (Asked code) stands = stands
+bare_stands pair m Two (Rests code) stands = stands
 
 -- A table that was run for so many records at most, and what has come of it: the table `old` before
 -- and `new` after, with the turrets before and after and how many moves each missed. It was not
@@ -216,19 +229,19 @@ module _ {D : Type 0} (state : D → DiskState) (small : AreSmall state) (limit 
   enough (Reason.TurretFault path) ends = absurd ends
 
   -- what is due by the table is due by the session
-  due_is : (path : Path) → due_to_turret path old new ≡ due_to session least path
+  due_is : (path : Path) → due_to_turret path old new ≡ due_to session least new.resting path
   due_is path =
-      ap (λ (m : MachineView). moves_told (position_of path m) (moves_made new.verified path (length found) least history)) machine_is
+      ap (λ (m : MachineView). turret_told (position_of path m) (told_made new.verified path (length found) least history ++ rest_told (of_path new.resting path))) machine_is
 
   -- what a turret got in full by the table, it got by the session
   got_all : (path : Path) → GetsAll (due_to_turret path old new) (of_path before path) (of_path after path)
-      → GetsAll (due_to session least path) (of_path before path) (of_path after path)
+      → GetsAll (due_to session least new.resting path) (of_path before path) (of_path after path)
   got_all path got = subst (λ (what : List Got). GetsAll what (of_path before path) (of_path after path)) (due_is path) got
 
   -- a turret that got a prefix of what is due by the table got a prefix of what is due by the
   -- session
   got_some : (path : Path) → GetsSome (due_to_turret path old new) (of_path before path) (of_path after path)
-      → GetsSome (due_to session least path) (of_path before path) (of_path after path)
+      → GetsSome (due_to session least new.resting path) (of_path before path) (of_path after path)
   got_some path got = subst (λ (what : List Got). GetsSome what (of_path before path) (of_path after path)) (due_is path) got
 
   -- each turret missed what it did not get of what is due by the table
@@ -236,31 +249,43 @@ module _ {D : Type 0} (state : D → DiskState) (small : AreSmall state) (limit 
   Missing = (path : Path) → Misses (due_to_turret path old new) (of_path missed path) (of_path before path) (of_path after path)
 
   -- what a turret missed by the table it missed by the session
-  missing : Missing → (path : Path) → Misses (due_to session least path) (of_path missed path) (of_path before path) (of_path after path)
+  missing : Missing → (path : Path) → Misses (due_to session least new.resting path) (of_path missed path) (of_path before path) (of_path after path)
   missing miss path =
       subst (λ (what : List Got). Misses what (of_path missed path) (of_path before path) (of_path after path)) (due_is path) (miss path)
 
+  -- unless the disk failed, a path whose turret was told to rest for a wait that is not recorded stands
+  -- before that wait
+  abbrev pub Standing : Type 0
+  Standing = new.halt ≢ Some halt.Disk → (path : Path) → StandsAsTold new.verified new.machine path (of_path new.resting path)
+
+  -- then it does so at the end of the session
+  stands_end : ((path : Path) → StandsAsTold new.verified new.machine path (of_path new.resting path)) → AreAsTold session new.resting
+  stands_end stands path = subst (λ (m : MachineView). StandsAsTold new.verified m path (of_path new.resting path)) (sym kept.folds)
+      (bare_stands new.verified new.machine path (of_path new.resting path) (stands path))
+
   -- both turrets are served as the reason says
   served : (x : Reason) → running.EndsBy state old new x → ((path : Path) → GetsAt x (due_to_turret path old new) (of_path before path) (of_path after path))
-      → Missing → AreServed x session least before after missed
-  served Reason.Done ends got miss = (λ path. got_all path (got path), missing miss)
-  served (Reason.Alarm alarm) ends got miss = (λ path. got_all path (got path), missing miss)
-  served Reason.Full ends got miss = (λ path. got_all path (got path), missing miss)
-  served Reason.Stopped ends got miss = (λ path. got_all path (got path), missing miss)
-  served Reason.DiskFault ends got miss = (λ path. got_some path (got path), missing miss)
-  served (Reason.TurretFault path) ends got miss = absurd ends
+      → Standing → Missing → AreServed x session least before after missed
+  served Reason.Done ends got stand miss = (new.resting, stands_end (stand (no_disk_fault new.halt ends.may.halt)), λ path. got_all path (got path), missing miss)
+  served (Reason.Alarm alarm) ends got stand miss = (new.resting, stands_end (stand (no_disk_fault new.halt ends.may.halt)), λ path. got_all path (got path), missing miss)
+  served Reason.Full ends got stand miss = (new.resting, stands_end (stand (no_disk_fault new.halt ends.0.may.halt)), λ path. got_all path (got path), missing miss)
+  served Reason.Stopped ends got stand miss = (new.resting, stands_end (stand (no_disk_fault new.halt ends.0.may.halt)), λ path. got_all path (got path), missing miss)
+  served Reason.DiskFault ends got stand miss = (new.resting, λ path. got_some path (got path), missing miss)
+  served (Reason.TurretFault path) ends got stand miss = absurd ends
 
   -- what is due by the table is due by all records of the session, if the others make no moves
-  due_whole : (whole : (p : Path) → due_by_all p old new ≡ due_to_turret p old new) (path : Path) → due_to_turret path old new ≡ due_to session (length history) path
+  due_whole : (whole : (p : Path) → due_by_all p old new ≡ due_to_turret p old new) (path : Path) → due_to_turret path old new ≡ due_to session (length history) new.resting path
   due_whole whole path =
-      sym (whole path) ∙ ap (λ (m : MachineView). moves_told (position_of path m) (moves_made new.verified path (length found) (length history) history)) machine_is
+      sym (whole path) ∙ ap (λ (m : MachineView). turret_told (position_of path m) (told_made new.verified path (length found) (length history) history ++ rest_told (of_path new.resting path))) machine_is
 
   -- what the turrets got and missed beside a fault of one by the table, they did by all records of
   -- the session
   failed_so : (path : Path) → ((p : Path) → due_by_all p old new ≡ due_to_turret p old new) → FailsAmong (due_to_turret path old new) (of_path before path) (of_path after path)
       → GetsBeside path (due_to_turret (other_of path) old new) (of_path before (other_of path)) (of_path after (other_of path))
-      → Missing → AreFailed path session before after missed
-  failed_so path whole failed other miss = record {
+      → ((p : Path) → StandsAsTold new.verified new.machine p (of_path new.resting p)) → Missing → AreFailed path session before after missed
+  failed_so path whole failed other stands miss = record {
+    resting = new.resting;
+    stands = stands_end stands;
     failed = subst (λ (what : List Got). FailsAmong what (of_path before path) (of_path after path)) (due_whole whole path) failed;
     other =
         subst (λ (what : List Got). GetsBeside path what (of_path before (other_of path)) (of_path after (other_of path))) (due_whole whole (other_of path)) other;
@@ -273,25 +298,25 @@ module _ {D : Type 0} (state : D → DiskState) (small : AreSmall state) (limit 
 
   -- how the run ended is how the session ended
   pub ending : (x : Reason) → running.EndsBy state old new x
-      → ((path : Path) → GetsAt x (due_to_turret path old new) (of_path before path) (of_path after path)) → Missing
+      → ((path : Path) → GetsAt x (due_to_turret path old new) (of_path before path) (of_path after path)) → Standing → Missing
       → IsEnding limit x session least d e
-  ending x ends got miss = record {
+  ending x ends got stand miss = record {
     few = no_more;
     cause = ends_by x ends got;
     enough = enough x ends;
-    turrets = theirs x (served x ends got miss);
+    turrets = theirs x (served x ends got stand miss);
   }
 
   -- if the turret of a path failed and no call of the disk, that is how the session ended
   pub failing : (path : Path) → e.disk.faults ≡ d.disk.faults → ((p : Path) → due_by_all p old new ≡ due_to_turret p old new)
       → FailsAmong (due_to_turret path old new) (of_path before path) (of_path after path)
       → GetsBeside path (due_to_turret (other_of path) old new) (of_path before (other_of path)) (of_path after (other_of path))
-      → Missing → IsEnding limit (Reason.TurretFault path) session least d e
-  failing path calm whole failed other miss = record {
+      → ((p : Path) → StandsAsTold new.verified new.machine p (of_path new.resting p)) → Missing → IsEnding limit (Reason.TurretFault path) session least d e
+  failing path calm whole failed other stands miss = record {
     few = no_more;
     cause = turret_failed path (failed.1.gets.counted.rose refl) calm;
     enough = most;
-    turrets = theirs (Reason.TurretFault path) (inl (failed_so path whole failed other miss));
+    turrets = theirs (Reason.TurretFault path) (inl (failed_so path whole failed other stands miss));
   }
 
   -- a turret that failed at its place, in a run without a record

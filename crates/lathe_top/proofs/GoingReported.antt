@@ -19,7 +19,7 @@ use Rattle.run_journal.specs.Stands.{Holds}
 use Rattle.run_table.specs.Kept.{TableView}
 use Rattle.run_table.specs.Recording.{StandsForPrefix, IsJournaled}
 use Rattle.run_table.specs.Running.{MayRun}
-use Rattle.turret_run.specs.Served.{moves_told, GetsPart}
+use Rattle.turret_run.specs.Served.{place_told, GetsPart}
 use Rattle.turret_run.specs.Runs.{HasEnded, HasNotBegun, RunsWith}
 use Rattle.two_path.specs.Machine.{MachineView, position_of}
 use Rattle.two_path.specs.Histories.{IsKept}
@@ -113,7 +113,7 @@ module _ {D : Type 0} (state : D → DiskState) (coherent : (disk : D) → IsCoh
           none = refl;
           all = refl;
           places = λ path.
-              subst (λ (m : MachineView). GetsPart (moves_told (position_of path m) []) (of_path before path) (of_path after path)) machine_is
+              subst (λ (m : MachineView). GetsPart (place_told (position_of path m)) (of_path before path) (of_path after path)) machine_is
               (not_begun.turrets path);
           missed = not_begun.none;
         })
@@ -141,7 +141,7 @@ module _ {D : Type 0} (state : D → DiskState) (coherent : (disk : D) → IsCoh
   ended_report text_of end ran =
       report new.recording.history new.recording.flushed
       (goes_on state small limit old new may behind unended ran.since kept few pending header journaled before after missed)
-      (ending state small limit old new may behind unended ran.since kept few pending header journaled before after missed end ran.ends ran.turrets ran.misses)
+      (ending state small limit old new may behind unended ran.since kept few pending header journaled before after missed end ran.ends ran.turrets ran.rests ran.misses)
       (keeps_going state small limit old new may behind unended ran.since kept few pending header journaled before after missed live)
 
   -- what is told of a run is what is due to its end, or nothing if it did not begin
@@ -155,7 +155,7 @@ module _ {D : Type 0} (state : D → DiskState) (coherent : (disk : D) → IsCoh
   told_report text_of (Ok (Reason.TurretFault path)) (inl ran) =
       report new.recording.history new.recording.flushed
       (goes_on state small limit old new may behind unended ran.since kept few pending header journaled before after missed)
-      (failing state small limit old new may behind unended ran.since kept few pending header journaled before after missed path ran.calm ran.whole ran.failed ran.other ran.misses)
+      (failing state small limit old new may behind unended ran.since kept few pending header journaled before after missed path ran.calm ran.whole ran.failed ran.other ran.rests ran.misses)
       (keeps_going state small limit old new may behind unended ran.since kept few pending header journaled before after missed live)
   told_report text_of (Ok (Reason.TurretFault path)) (inr ran) =
       report new.recording.history new.recording.flushed

@@ -8,7 +8,6 @@ pub mod Opened
 pub mod RunsBegun
 pub mod RunsFound
 pub mod Agreed
-pub mod OneMeeting
 mod OneRaces
 mod ZonesDue
 mod EditsDue
@@ -17,7 +16,7 @@ mod BranchesDue
 mod BranchesMade
 pub mod DueOnce
 pub mod FaultsFirst
-pub mod RowsSay
+pub mod JournalUsed
 pub mod DoneLeaves
 pub mod StopsLeave
 pub mod StreamsWritten

@@ -1,6 +1,6 @@
 -- What a turret got of a session is written as the lines of its report.
 -- For the proof of `a_stream_has_the_reports_lines` (src/stream_laws.rt).
-use Rattle.std.proofs.Common.{◌≡◌, inl, inr, ℕ, Bool, true, false, true≢false, List, [], ◌∷◌, ◌++◌, length, take, drop, Option, Some, None, refl, sym, ap, ◌∙◌, subst, arith, ◌<◌, ◌+◌}
+use Rattle.std.proofs.Common.{◌≡◌, inl, inr, ℕ, Bool, true, false, true≢false, List, [], ◌∷◌, ◌++◌, length, map, append-nil, take, drop, Option, Some, None, refl, sym, ap, ◌∙◌, subst, arith, ◌<◌, ◌+◌}
 use Rattle.std.specs.List.{flat_map}
 use Rattle.std.specs.Option.{ForSome}
 use Rattle.std.proofs.lemmas.List.{take_all, take-append-drop}
@@ -12,6 +12,8 @@ use Rattle.command_words.specs.declared.command.Command.{Command}
 use Rattle.command_words.specs.declared.command.Command.TheVariants as command
 use Rattle.disk_model.specs.Device.{DiskState}
 use Rattle.nc_outside.specs.declared.got.Got.{Got}
+use Rattle.nc_outside.specs.declared.got.Got.TheVariants.{Placed, Moved, Rested}
+use Rattle.nc_outside.specs.declared.rest.Rest.TheVariants.{End}
 use Rattle.nc_outside.specs.Received.{Received, TurretState, Adds}
 use Rattle.nc_outside.specs.declared.lined_move.LinedMove.{LinedMove}
 use Rattle.gate_file.specs.declared.fault.GateFault.{GateFault}
@@ -20,20 +22,25 @@ use Rattle.nc_restart.specs.declared.fault.RestartFault.{RestartFault}
 use Rattle.nc_restart.specs.declared.fault.RestartFault.TheVariants as restart
 use Rattle.nc_verify.specs.Verdict.{Texts}
 use Rattle.run_records.specs.Entries.{Entry}
-use Rattle.seat_table.specs.Turning as seat
+use Rattle.nc_number.specs.declared.both.Both.{Both}
+use Rattle.nc_outside.specs.Lined.{lined_moves}
+use Rattle.two_path.specs.declared.turn.Turn.{Turn}
+use Rattle.two_path.specs.declared.turn.Turn.TheVariants as turn
 use Rattle.two_path.specs.Again.{turn_of_entry}
 use Rattle.two_path.specs.Histories.{behind_entry, fold}
 use Rattle.two_path.specs.Machine.{MachineView}
 use Rattle.two_path.specs.Turns.{Tapes}
 use Rattle.turret_lines.specs.Stream.{stream_of}
-use Rattle.run_table.specs.Made.{moves_made, shown_from}
+use Rattle.run_table.specs.declared.resting.Resting.{Resting}
+use Rattle.run_table.specs.declared.resting.Resting.TheVariants.{Unasked, Asked, Rests}
+use Rattle.run_table.specs.Draining.{rest_told, told_in_turn}
+use Rattle.run_table.specs.Made.{joined, told_from, told_made}
 use Rattle.nc_outside.specs.declared.reason.Reason.{Reason}
 use Rattle.two_path.specs.Made.{moves_made_in, moves_in, moves_of, turns_from}
 use Rattle.move_list.specs.Report.{lined_text}
-use Rattle.move_list.proofs.Streams.{later_moves, stream_is}
+use Rattle.move_list.proofs.Streams.{later_moves}
 use Rattle.nc_restart.specs.Pair.{tapes_in, opening_of}
-use Rattle.turret_run.specs.Served.{moves_told, GetsAll}
-use Rattle.two_path.specs.Machine.{position_of}
+use Rattle.turret_run.specs.Served.{GetsAll}
 use Rattle.lathe_calls.specs.Answers.{Answer, tells, nothing, whole, cut, unwritten, untold}
 use Rattle.lathe_looks.specs.declared.fetching.FileFault.{FileFault}
 use Rattle.lathe_looks.specs.declared.fetching.FileFault.TheVariants.{Failed, Absent, TooLong}
@@ -49,48 +56,86 @@ use Rattle.lathe_top.specs.Lathe.{AreAtRest}
 use Rattle.lathe_top.specs.Ran.{TextOf, IsReported, reported, unprepared, IsRun, refused, unjudged, not_begun, ran, unbegun_answer, IsResumed, not_found, resumed}
 use Rattle.lathe_calls.specs.Statuses.{reason_status}
 use Rattle.lathe_top.specs.Session.{IsSession, Session, machine_found}
-use Rattle.lathe_top.specs.Streams.{GetsStream, HasStreams, IsStream, IsUncut, MakesRecords, report_lines}
+use Rattle.lathe_top.specs.Streams.{GetsStream, HasStreams, IsStream, IsUncut, MakesRecords, moves_got, report_lines}
 use Rattle.lathe_top.specs.Turrets.{due_to, IsEnding}
 
--- the moves that a run shows of a path's records are those of its report
+-- the moves among two lists are those of the first and then those of the second
+got_of_both : (a b : List Got) → moves_got (a ++ b) ≡ moves_got a ++ moves_got b
+got_of_both [] b = refl
+got_of_both (Placed at ∷ a) b = got_of_both a b
+got_of_both (Moved what ∷ a) b = ap (λ l. what ∷ l) (got_of_both a b)
+got_of_both (Rested at ∷ a) b = got_of_both a b
+
+-- the moves among moves are these
+all_moves : (moves : List LinedMove) → moves_got (map Moved moves) ≡ moves
+all_moves [] = refl
+all_moves (what ∷ moves) = ap (λ l. what ∷ l) (all_moves moves)
+
+-- the moves among what a turn tells are those that it makes
+turn_moves : (t : Turn) → moves_got (told_in_turn t) ≡ moves_made_in t
+turn_moves (turn.Read variable stamp) = refl
+turn_moves (turn.Did moves) = all_moves (lined_moves moves)
+turn_moves (turn.Arrived code) = refl
+turn_moves (turn.Met code) = refl
+turn_moves (turn.Ended moves) = all_moves (lined_moves moves)
+turn_moves (turn.Waiting code) = refl
+turn_moves turn.Finished = refl
+turn_moves (turn.Alarm alarm) = refl
+turn_moves (turn.Halted alarm) = refl
+turn_moves turn.Edited = refl
+
+-- a turret is told no move by a rest
+no_rest_moves : (r : Resting) → moves_got (rest_told r) ≡ []
+no_rest_moves Unasked = refl
+no_rest_moves (Asked code) = refl
+no_rest_moves (Rests code) = refl
+
+-- the moves that a path's records tell are those of its report
 same_moves : (tapes : Tapes) (m : MachineView) (path : Path) (entries : List Entry)
-    → seat.moves_in (shown_from tapes m path entries) ≡ moves_of tapes m path entries
+    → moves_got (joined (told_from tapes m path entries)) ≡ moves_of tapes m path entries
 unfolding moves_in turns_from
 same_moves tapes m path [] = refl
 same_moves tapes m path (e ∷ entries) =
     go (is_same path e.path) refl (same_moves tapes (behind_entry tapes e m) path entries)
   where
     go : (b : Bool) → is_same path e.path ≡ b
-        → seat.moves_in (shown_from tapes (behind_entry tapes e m) path entries) ≡ moves_of tapes (behind_entry tapes e m) path entries
-        → seat.moves_in (shown_from tapes m path (e ∷ entries)) ≡ moves_of tapes m path (e ∷ entries)
-    go true is rest = rw is (ap (λ (l : List LinedMove). moves_made_in (turn_of_entry tapes e m) ++ l) rest)
+        → moves_got (joined (told_from tapes (behind_entry tapes e m) path entries)) ≡ moves_of tapes (behind_entry tapes e m) path entries
+        → moves_got (joined (told_from tapes m path (e ∷ entries))) ≡ moves_of tapes m path (e ∷ entries)
+    go true is rest = rw is (got_of_both (told_in_turn (turn_of_entry tapes e m)) (joined (told_from tapes (behind_entry tapes e m) path entries))
+        ∙ ap (λ (l : List LinedMove). l ++ moves_got (joined (told_from tapes (behind_entry tapes e m) path entries))) (turn_moves (turn_of_entry tapes e m))
+        ∙ ap (λ (l : List LinedMove). moves_made_in (turn_of_entry tapes e m) ++ l) rest)
     go false is rest = rw is rest
 
 -- what is due to a turret is written as the stream of its path
-stream_due : (s : Session) (path : Path) → take (length s.found) s.history ≡ s.found → IsStream s path (stream_of (due_to s (length s.history) path))
-stream_due s path extends =
+stream_due : (s : Session) (resting : Both Resting) (path : Path) → take (length s.found) s.history ≡ s.found → IsStream s path (stream_of (due_to s (length s.history) resting path))
+stream_due s resting path extends =
     let tapes = tapes_in s.pair in
     let later = drop (length s.found) s.history in
+    let told = told_made s.pair path (length s.found) (length s.history) s.history in
+    let rest = rest_told (of_path resting path) in
     let all : take (length s.history) s.history ≡ s.history = take_all (length s.history) s.history (omega arith) in
-    let moves : moves_made s.pair path (length s.found) (length s.history) s.history ≡ moves_of tapes (machine_found s) path later =
-    ap (λ (h : List Entry). seat.moves_in (shown_from tapes (fold tapes (opening_of s.pair) h) path (drop (length s.found) (take (length s.history) s.history)))) extends
-    ∙ ap (λ (h : List Entry). seat.moves_in (shown_from tapes (machine_found s) path (drop (length s.found) h))) all
+    let moves : moves_got told ≡ moves_of tapes (machine_found s) path later =
+    ap (λ (h : List Entry). moves_got (joined (told_from tapes (fold tapes (opening_of s.pair) h) path (drop (length s.found) (take (length s.history) s.history))))) extends
+    ∙ ap (λ (h : List Entry). moves_got (joined (told_from tapes (machine_found s) path (drop (length s.found) h)))) all
     ∙ same_moves tapes (machine_found s) path later in
+    let among : moves_got ((told ++ rest) ++ Rested End ∷ []) ≡ moves_of tapes (machine_found s) path later =
+    got_of_both (told ++ rest) (Rested End ∷ []) ∙ append-nil (moves_got (told ++ rest)) ∙ got_of_both told rest
+    ∙ ap (λ (l : List LinedMove). moves_got told ++ l) (no_rest_moves (of_path resting path)) ∙ append-nil (moves_got told) ∙ moves in
     let parts : s.history ≡ s.found ++ later = sym (take-append-drop (length s.found) s.history) ∙ ap (λ (h : List Entry). h ++ later) extends in
     record {
-      lines = flat_map lined_text (moves_of tapes (machine_found s) path later);
-      stream = ap (λ (l : List LinedMove). stream_of (moves_told (position_of path (machine_found s)) l)) moves
-          ∙ stream_is (position_of path (machine_found s)) (moves_of tapes (machine_found s) path later);
+      got = (told ++ rest) ++ Rested End ∷ [];
+      stream = refl;
       report = ap (report_lines s.pair path) parts
           ∙ ap (flat_map lined_text) (later_moves tapes (opening_of s.pair) path s.found later)
-          ∙ flat_map-append lined_text (moves_of tapes (opening_of s.pair) path s.found) (moves_of tapes (machine_found s) path later);
+          ∙ flat_map-append lined_text (moves_of tapes (opening_of s.pair) path s.found) (moves_of tapes (machine_found s) path later)
+          ∙ ap (λ (l : List LinedMove). report_lines s.pair path s.found ++ flat_map lined_text l) (sym among);
     }
 
 -- a turret that got these more has, if it makes known what it got, these at the end
-told_on : (old new : TurretState) (what : List Got) (calls settles : ℕ) → Adds old.received new.received what calls settles → (was : Received)
+told_on : (old new : TurretState) (what : List Got) (calls : ℕ) → Adds old.received new.received what calls → (was : Received)
     → old.received ≡ Some was → (now : Received) × (new.received ≡ Some now) × (now.got ≡ was.got ++ what)
-told_on old new what calls settles adds was is =
-    let more : Adds (Some was) new.received what calls settles = subst (λ (r : Option Received). Adds r new.received what calls settles) is adds in
+told_on old new what calls adds was is =
+    let more : Adds (Some was) new.received what calls = subst (λ (r : Option Received). Adds r new.received what calls) is adds in
     (_, more, refl)
 
 -- what a turret got, or an empty list if it does not make that known
@@ -103,26 +148,26 @@ for_some : (w : Option (List ℕ)) (P Q : List ℕ → Type 0) → ((b : List �
 for_some w P Q more holds = λ b is. more b (holds b is)
 
 -- a turret that got all that is due got the stream of its path
-gets_stream : (s : Session) (path : Path) (old new : TurretState) → take (length s.found) s.history ≡ s.found
-    → GetsAll (due_to s (length s.history) path) old new → GetsStream s path old new
+gets_stream : (s : Session) (resting : Both Resting) (path : Path) (old new : TurretState) → take (length s.found) s.history ≡ s.found
+    → GetsAll (due_to s (length s.history) resting path) old new → GetsStream s path old new
 unfolding got_of told_on
-gets_stream s path old new extends all =
+gets_stream s resting path old new extends all =
     let gets = all.gets in
-    let what = due_to s (length s.history) path in
-    let adds : Adds old.received new.received what (length what + gets.at_call) gets.settles =
-    subst (λ (g : List Got). Adds old.received new.received g (length what + gets.at_call) gets.settles) (take_all (length what) what (omega arith)) gets.received in
+    let what = due_to s (length s.history) resting path in
+    let adds : Adds old.received new.received what (length what + 0) =
+    subst (λ (g : List Got). Adds old.received new.received g (length what + 0)) (take_all (length what) what (omega arith)) gets.received in
     let calm : new.faults ≡ old.faults = gets.counted.kept (λ p. true≢false (sym p)) in
-    let is = stream_due s path extends in
+    let is = stream_due s resting path extends in
     record {
       got = what;
       is = is;
-      told = told_on old new what _ gets.settles adds;
+      told = told_on old new what _ adds;
       calm = calm;
-      written = λ written has calls settles faults fresh after stream.
-          let begun : old.received ≡ Some (record { got = []; calls = 0; settles = 0 }) = ap (λ (t : TurretState). t.received) fresh in
-          let now = told_on old new what _ gets.settles adds _ begun in
-          let ends : new.received ≡ Some (record { got = has; calls = calls; settles = settles }) = ap (λ (t : TurretState). t.received) after in
-          let both : ◌≡◌ {A = Option Received} (Some now.0) (Some (record { got = has; calls = calls; settles = settles })) = sym now.1 ∙ ends in
+      written = λ written has calls faults fresh after stream.
+          let begun : old.received ≡ Some (record { got = []; calls = 0 }) = ap (λ (t : TurretState). t.received) fresh in
+          let now = told_on old new what _ adds _ begun in
+          let ends : new.received ≡ Some (record { got = has; calls = calls }) = ap (λ (t : TurretState). t.received) after in
+          let both : ◌≡◌ {A = Option Received} (Some now.0) (Some (record { got = has; calls = calls })) = sym now.1 ∙ ends in
           let same : has ≡ what = sym (ap got_of both) ∙ now.2 in
           let none : faults ≡ 0 = sym (ap (λ (t : TurretState). t.faults) after) ∙ calm ∙ ap (λ (t : TurretState). t.faults) fresh in
           for_some written _ _ (λ bytes lines. subst (IsStream s path) (sym (lines ∙ ap stream_of same)) is) (stream.whole none);
@@ -180,7 +225,7 @@ unfound_status restart.NoMemory uncut = no_high 12 (omega arith) (omega arith) u
 module _ {D E : Type 0} (state : D → DiskState) (second : E → DiskState) (call : Call E) where
   -- each turret got all that is due to it by this session
   abbrev AllGot : Session → ℕ → Type 0
-  AllGot s least = (path : Path) → GetsAll (due_to s least path) (of_path call.before.lathe.turrets path) (of_path call.after.lathe.turrets path)
+  AllGot s least = (resting : Both Resting) × ((path : Path) → GetsAll (due_to s least resting path) (of_path call.before.lathe.turrets path) (of_path call.after.lathe.turrets path))
 
   -- of a session whose turrets got all that is due, or rested, each stream is written
   served : (opening : Opening) (s : Session) (reason : Reason) (least : ℕ) → IsSession s → IsOpened opening s call.before.lathe.disk
@@ -196,9 +241,9 @@ module _ {D E : Type 0} (state : D → DiskState) (second : E → DiskState) (ca
     reason = reason;
     answered = refl;
     over = over;
-    streams = λ more path. gets_stream s path _ _ is.goes_on.extends
-        (subst (λ (n : ℕ). GetsAll (due_to s n path) (of_path call.before.lathe.turrets path) (of_path call.after.lathe.turrets path)) all
-        (got more path));
+    streams = λ more path. gets_stream s (got more).0 path _ _ is.goes_on.extends
+        (subst (λ (n : ℕ). GetsAll (due_to s n (got more).0 path) (of_path call.before.lathe.turrets path) (of_path call.after.lathe.turrets path)) all
+        ((got more).1 path));
   }
 
   -- a session whose reason has the status of a run that was not cut off wrote the stream of each
@@ -207,13 +252,13 @@ module _ {D E : Type 0} (state : D → DiskState) (second : E → DiskState) (ca
       → IsOpened opening s call.before.lathe.disk → KeepsSession state opening s least call.before.lathe.disk call.after.lathe.disk
       → IsEnding limit reason s least call.before.lathe call.after.lathe → HasStreams state call (reason_status reason)
   ended opening limit s Reason.Done least uncut is opened keeps ends =
-      served opening s Reason.Done least is opened keeps ends.enough ends.turrets.over (λ more. (ends.turrets.goes_on more).0)
+      served opening s Reason.Done least is opened keeps ends.enough ends.turrets.over (λ more. let served_by = ends.turrets.goes_on more in (served_by.0, served_by.2))
   ended opening limit s (Reason.Alarm alarm) least uncut is opened keeps ends =
-      served opening s (Reason.Alarm alarm) least is opened keeps ends.enough ends.turrets.over (λ more. (ends.turrets.goes_on more).0)
+      served opening s (Reason.Alarm alarm) least is opened keeps ends.enough ends.turrets.over (λ more. let served_by = ends.turrets.goes_on more in (served_by.0, served_by.2))
   ended opening limit s Reason.Stopped least uncut is opened keeps ends =
-      served opening s Reason.Stopped least is opened keeps ends.enough ends.turrets.over (λ more. (ends.turrets.goes_on more).0)
+      served opening s Reason.Stopped least is opened keeps ends.enough ends.turrets.over (λ more. let served_by = ends.turrets.goes_on more in (served_by.0, served_by.2))
   ended opening limit s Reason.Full least uncut is opened keeps ends =
-      served opening s Reason.Full least is opened keeps ends.enough ends.turrets.over (λ more. (ends.turrets.goes_on more).0)
+      served opening s Reason.Full least is opened keeps ends.enough ends.turrets.over (λ more. let served_by = ends.turrets.goes_on more in (served_by.0, served_by.2))
   ended opening limit s Reason.DiskFault least uncut is opened keeps ends = absurd (no_mid 6 (omega arith) (omega arith) uncut)
   ended opening limit s (Reason.TurretFault path) least uncut is opened keeps ends = absurd (no_mid 7 (omega arith) (omega arith) uncut)
 
@@ -266,7 +311,9 @@ module _ {D E : Type 0} (state : D → DiskState) (second : E → DiskState) (ca
   due_streams command.State answer due makes uncut = absurd makes
   due_streams (command.Make number turrets) answer due makes uncut = run_streams _ _ _ answer due.0 uncut
   due_streams (command.Zones zones) answer due makes uncut = absurd makes
+  due_streams (command.ZonesOf zones left right settings) answer due makes uncut = absurd makes
   due_streams (command.Expand tape) answer due makes uncut = absurd makes
+  due_streams (command.Plain tape settings) answer due makes uncut = absurd makes
   due_streams (command.Edit edits) answer due makes uncut = absurd makes
   due_streams (command.Branch meetings) answer due makes uncut = absurd makes
 

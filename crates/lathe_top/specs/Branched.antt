@@ -18,6 +18,8 @@ use Rattle.run_branch.specs.declared.fault.BranchFault.{BranchFault}
 use Rattle.run_branch.specs.declared.fault.BranchFault.TheVariants as fault
 use Rattle.run_branch.specs.Branches.{branch_end}
 use Rattle.run_branch.specs.Meetings.{meetings, branch_point}
+use Rattle.nc_number.specs.declared.cause.Cause.TheVariants.{NoMeeting}
+use Rattle.text_pieces.specs.Refusals.{refused_text}
 use Rattle.lathe_calls.specs.Answers.{Answer, tells, nothing}
 use Rattle.lathe_calls.specs.Statuses as exit
 use Rattle.lathe_looks.specs.Shown.{unfound_answer}
@@ -26,10 +28,9 @@ use Rattle.lathe_looks.specs.Shown.{unfound_answer}
 unfoldable pub branched_text : ℕ → ℕ → List ℕ
 branched_text n k = codes "branched " ++ (decimal n ++ (codes " records " ++ (decimal k ++ codes "\n")))
 
--- What is told if a branch is not made, by the cause; nothing if memory runs out. The number 95 and
--- its name stand here and in src/branching.rt as in the table of causes.
+-- What is told if a branch is not made, by the cause; nothing if memory runs out.
 abbrev pub unbranched_answer : BranchFault → Answer
-unbranched_answer fault.NoMeeting = tells exit.refused (codes "refused 95 NoMeeting\n")
+unbranched_answer fault.NoMeeting = tells exit.refused (refused_text NoMeeting)
 unbranched_answer fault.RunThere = tells exit.run_or_none (codes "run there\n")
 unbranched_answer fault.NewDisk = tells exit.disk_fault (codes "disk fault\n")
 unbranched_answer fault.NoMemory = nothing

@@ -8,6 +8,7 @@ use Rattle.nc_number.specs.declared.path.Path.{Path}
 use Rattle.command_words.specs.declared.command.Command.{Command}
 use Rattle.command_words.specs.declared.command.Command.TheVariants as command
 use Rattle.command_words.specs.Listed.{listed_command}
+use Rattle.command_words.specs.declared.making.TheConstants.{DEFAULT_BLOCKS}
 use Rattle.disk_model.specs.Device.{DiskState, Reads}
 use Rattle.disk_model.specs.Device.{Rose as DiskRose}
 use Rattle.nc_outside.specs.Faults.{Rose}
@@ -15,11 +16,13 @@ use Rattle.nc_outside.specs.Files.{Files, ShelfState}
 use Rattle.nc_outside.specs.Written.{SinkState, Writes}
 use Rattle.lathe_looks.specs.declared.showing.Showing.TheVariants as showing
 use Rattle.lathe_calls.specs.Answers.{Answer, tells, nothing, Ends, NoPutFailed}
-use Rattle.lathe_looks.specs.Expanded.{IsExpanded}
+use Rattle.tape_calls.specs.Expanded.{IsExpanded}
+use Rattle.tape_calls.specs.Plained.{IsPlained}
 use Rattle.lathe_calls.specs.Judged.{IsJudged}
 use Rattle.lathe_calls.specs.Due.{IsOfPair}
-use Rattle.lathe_looks.specs.Named.{Named, only_text, edits_named, files_of, pair_texts, tape_named, zones_named}
-use Rattle.lathe_looks.specs.Shown.{IsShown, shown_text}
+use Rattle.lathe_looks.specs.Named.{Named, only_text, edits_named, files_of, pair_texts, tape_named, tape_texts, tape_with_settings, zones_and_pair, zones_before, zones_named}
+use Rattle.lathe_looks.specs.Shown.{IsShowing, IsShown}
+use Rattle.lathe_looks.specs.Zoned.{AreZonesFor}
 use Rattle.lathe_calls.specs.Races.{IsRaceAnswer}
 use Rattle.lathe_calls.specs.Statuses as exit
 use Rattle.lathe_calls.specs.Traced.{IsTraced}
@@ -106,15 +109,20 @@ IsDueTo state second (command.Resume limit turrets) old new answer = IsResumed s
 IsDueTo state second (command.Edit name) old new answer =
     IsOverFiles only_text (edits_named name) IsEdited old.lathe new.lathe old.shelf new.shelf answer
 IsDueTo state second command.Moves old new answer =
-    IsShown (shown_text showing.Moves) old.lathe.disk new.lathe.disk answer × AreAtRest old.lathe new.lathe × AsksNothing old new
+    IsShown (IsShowing showing.Moves) old.lathe.disk new.lathe.disk answer × AreAtRest old.lathe new.lathe × AsksNothing old new
 IsDueTo state second command.State old new answer =
-    IsShown (shown_text showing.State) old.lathe.disk new.lathe.disk answer × AreAtRest old.lathe new.lathe × AsksNothing old new
+    IsShown (IsShowing showing.State) old.lathe.disk new.lathe.disk answer × AreAtRest old.lathe new.lathe × AsksNothing old new
 IsDueTo state second (command.Zones zones) old new answer =
     IsOverFiles only_text (zones_named zones) IsZoned old.lathe new.lathe old.shelf new.shelf answer
+IsDueTo state second (command.ZonesOf zones left right settings) old new answer =
+    IsOfFilesAlone zones_and_pair (zones_before zones (files_of left right settings)) (AreZonesFor DEFAULT_BLOCKS)
+    old.lathe new.lathe old.shelf new.shelf answer
 IsDueTo state second (command.Branch meetings) old new answer =
     IsBranched second meetings old.lathe.disk new.lathe.disk old.second new.second answer × AreAtRest old.lathe new.lathe × AsksNothing old new
 IsDueTo state second (command.Expand tape) old new answer =
     IsOfFilesAlone only_text (tape_named tape) IsExpanded old.lathe new.lathe old.shelf new.shelf answer
+IsDueTo state second (command.Plain tape settings) old new answer =
+    IsOfFilesAlone tape_texts (tape_with_settings tape settings) IsPlained old.lathe new.lathe old.shelf new.shelf answer
 
 -- the command was done, and the call ended with this status
 abbrev pub Performs : {D E : Type 0} → (D → DiskState) → (E → DiskState) → Command → TopState E → TopState E → ℕ → Type 0

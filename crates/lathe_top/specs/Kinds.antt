@@ -4,9 +4,9 @@
 use Rattle.std.specs.Prelude.{ℕ, Bool, true, false, Option, Some, None, List, []}
 use Rattle.command_words.specs.declared.command.Command.{Command}
 use Rattle.command_words.specs.declared.command.Command.TheVariants as command
-use Rattle.command_words.specs.declared.table.Journal.{Journal}
-use Rattle.command_words.specs.declared.table.Journal.TheVariants as journal
-use Rattle.lathe_looks.specs.Named.{Named, edits_named, files_of, tape_named, zones_named}
+use Rattle.command_words.specs.declared.journal.Journal.{Journal}
+use Rattle.command_words.specs.declared.journal.Journal.TheVariants as journal
+use Rattle.lathe_looks.specs.Named.{Named, edits_named, files_of, tape_named, tape_with_settings, zones_before, zones_named}
 use Rattle.lathe_top.specs.Made.{made_limit}
 
 -- What a command may do to the disk and to the turrets.
@@ -37,9 +37,11 @@ kind_of (Some (command.Edit name)) = edits
 kind_of (Some command.Moves) = looks
 kind_of (Some command.State) = looks
 kind_of (Some (command.Zones zones)) = looks
+kind_of (Some (command.ZonesOf zones left right settings)) = rests
 kind_of (Some (command.Branch meetings)) = branches
 kind_of (Some (command.Make number turrets)) = begins made_limit
 kind_of (Some (command.Expand tape)) = rests
+kind_of (Some (command.Plain tape settings)) = rests
 
 -- the files that a command names, in the order in which they are fetched
 abbrev pub named_by : Option Command → List Named
@@ -49,7 +51,9 @@ named_by (Some (command.Races left right settings)) = files_of left right settin
 named_by (Some (command.Trace left right settings limit)) = files_of left right settings
 named_by (Some (command.Run left right settings limit turrets)) = files_of left right settings
 named_by (Some (command.Expand tape)) = tape_named tape
+named_by (Some (command.Plain tape settings)) = tape_with_settings tape settings
 named_by (Some (command.Zones zones)) = zones_named zones
+named_by (Some (command.ZonesOf zones left right settings)) = zones_before zones (files_of left right settings)
 named_by (Some (command.Edit name)) = edits_named name
 named_by other = []
 

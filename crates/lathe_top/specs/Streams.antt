@@ -1,14 +1,16 @@
 -- What the turrets of a call write, against the report: the stream of a path, and the lines that
 -- the report has for it.
 -- The public law of src/stream_laws.rt is said in these words; no other crate takes them.
-use Rattle.std.specs.Prelude.{◌≡◌, ◌⊎◌, ℕ, true, false, List, [], ◌++◌, length, Option, Some}
+use Rattle.std.specs.Prelude.{◌≡◌, ◌⊎◌, ℕ, true, false, List, [], ◌∷◌, ◌++◌, length, Option, Some}
 use Rattle.std.specs.Option.{ForSome}
 use Rattle.nc_number.specs.Both.{of_path}
 use Rattle.nc_number.specs.declared.path.Path.{Path}
 use Rattle.disk_model.specs.Device.{DiskState}
 use Rattle.nc_outside.specs.declared.got.Got.{Got}
 use Rattle.nc_outside.specs.Received.{Received, TurretState}
-use Rattle.move_text.specs.MoveText.{placed_text}
+use Rattle.nc_outside.specs.declared.got.Got.TheVariants.{Placed, Moved, Rested}
+use Rattle.nc_outside.specs.declared.lined_move.LinedMove.{LinedMove}
+use Rattle.turret_run.specs.Served.{place_told}
 use Rattle.turret_lines.specs.Stream.{HasStream, stream_of, told_state}
 use Rattle.nc_verify.specs.declared.verified.Verified.{Verified}
 use Rattle.run_records.specs.Entries.{Entry}
@@ -44,20 +46,24 @@ IsUncut status = (status ≡ exit.done) ⊎ ((status ≡ exit.alarm) ⊎ ((statu
 abbrev pub report_lines : Verified → Path → List Entry → List ℕ
 report_lines pair path history = lines_text (moves_of (tapes_in pair) (opening_of pair) path history)
 
--- the line of the place at which a session finds a path's turret
-abbrev pub place_line : Session → Path → List ℕ
-place_line s path = placed_text (position_of path (machine_found s))
+-- the moves among what a turret got, in order
+abbrev pub moves_got : List Got → List LinedMove
+moves_got [] = []
+moves_got (Placed at ∷ got) = moves_got got
+moves_got (Moved what ∷ got) = what ∷ moves_got got
+moves_got (Rested at ∷ got) = moves_got got
 
--- A stream is the line of the path's place, and then exactly the lines that the report has for the
--- path's records of this session: its lines at the end are those for the records that were found,
--- and then these.
+-- A stream is the lines of what the path's turret got: its place and a rest there, and then moves and
+-- rests, of which the moves are exactly those that the report lists for the path's records of this
+-- session: its lines at the end are those for the records that were found, and then those of these
+-- moves. (Rests have no line, but for those before waits.)
 pub record IsStream (s : Session) (path : Path) (bytes : List ℕ) : Type 0 where
-  -- the lines after that of the place
-  pub lines : List ℕ
-  -- the stream is the line of the place, and these lines
-  pub stream : bytes ≡ place_line s path ++ lines
-  -- the report's lines at the end are those for the records that were found, and these lines
-  pub report : report_lines s.pair path s.history ≡ report_lines s.pair path s.found ++ lines
+  -- what the turret got behind its place
+  pub got : List Got
+  -- the stream is the lines of the place and of these
+  pub stream : bytes ≡ stream_of (place_told (position_of path (machine_found s)) ++ got)
+  -- the report's lines at the end are those for the records that were found, and those of the moves
+  pub report : report_lines s.pair path s.history ≡ report_lines s.pair path s.found ++ lines_text (moves_got got)
 
 -- A turret got what is written as the stream of the path, and did not fail. If it was a new one
 -- that writes lines, its sink has the stream, and nothing else.
@@ -72,8 +78,8 @@ pub record GetsStream (s : Session) (path : Path) (old new : TurretState) : Type
   -- no call of the turret failed
   pub calm : new.faults ≡ old.faults
   -- the sink of a new turret that writes lines has the stream
-  pub written : (written : Option (List ℕ)) (has : List Got) (calls settles faults : ℕ) → old ≡ told_state [] 0 0 0
-      → new ≡ told_state has calls settles faults → HasStream written has faults
+  pub written : (written : Option (List ℕ)) (has : List Got) (calls faults : ℕ) → old ≡ told_state [] 0 0
+      → new ≡ told_state has calls faults → HasStream written has faults
       → ForSome written (λ bytes. IsStream s path bytes)
 
 -- What a call did that made its records. They are of one session, which the disk then holds whole.

@@ -7,6 +7,7 @@ ghost use Rattle.run_records.specs.Headers.{IsShort};
 ghost use Rattle.nc_restart.specs.Recovered.{IsRecovered, Recovers, run_found};
 ghost use Rattle.lathe_calls.specs.Answers.{Ends, IsJust, tells};
 ghost use Rattle.lathe_calls.specs.Statuses as exit;
+ghost use Rattle.text_pieces.specs.Refusals.{refused_text};
 ghost use Rattle.lathe_top.specs.Branched.{IsBranched, branched_text, unbranched_answer};
 ghost use Rattle.lathe_top.specs.Held.{lathe_of, lathe_left};
 ghost use Rattle.lathe_top.specs.Lathe.{AreAtRest};
@@ -15,11 +16,12 @@ use crate::held::{Ended, Lathe};
 use disk_model::Disk;
 use lathe_calls::{Status, write_text};
 use lathe_looks::tell_unfound;
+use nc_number::Cause;
 use nc_outside::{Sink, Turret};
 use nc_restart::{Recovered, an_image_of_a_run_is_never_bad, recover};
 use run_branch::{BranchFault, branch};
 use std::alloc::Global;
-use text_pieces::Piece;
+use text_pieces::{Piece, refused};
 
 /// Writes the run whose journal the disk has, up to its meeting of this number, as a journal onto
 /// the second disk. No turret is called, and nothing is written to the disk of the run.
@@ -120,14 +122,24 @@ fn tell_branched<K: Sink>(meetings: u32, records: u32, out: &mut K) -> u8
     )
 }
 
+/// Writes that the run has too few meetings, and gives status 1.
+fn tell_no_meeting<K: Sink>(out: &mut K) -> u8
+    ensures { Ends (IsJust (tells exit.refused (refused_text Cause.NoMeeting)))
+        (K.state out.old) (K.state out.new) result }
+{
+    write_text(
+        out,
+        refused(Cause::NoMeeting).as_slice(),
+        Status::Refused as u8,
+    )
+}
+
 /// Writes why a branch was not made, and gives the status of the cause.
 fn tell_unbranched<K: Sink>(fault: BranchFault, out: &mut K) -> u8
     ensures { Ends (IsJust (unbranched_answer fault)) (K.state out.old) (K.state out.new) result }
 {
     match fault {
-        BranchFault::NoMeeting => {
-            write_text(out, b"refused 95 NoMeeting\n", Status::Refused as u8)
-        }
+        BranchFault::NoMeeting => tell_no_meeting(out),
         BranchFault::RunThere => write_text(out, b"run there\n", Status::RunOrNone as u8),
         BranchFault::NewDisk => write_text(out, b"disk fault\n", Status::DiskFault as u8),
         BranchFault::NoMemory => Status::NoMemory as u8,

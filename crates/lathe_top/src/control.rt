@@ -37,8 +37,8 @@ use wait_verify::{accepted_pairs_are_not_refused, pairs_have_one_refusal};
 /// the text was written. 1: the tapes, the settings, the edits or the zones are refused, or there
 /// is no such meeting. 2: the words are no command. 3: a path raised an alarm. 4: the shelf failed.
 /// 5: the sink failed. 6: a disk failed. 7: the turret of a path failed. 8: for `run` and `make`
-/// there is a run on the disk; for `resume`, `edit`, `branch`, `moves`, `state` and `zones` there
-/// is none; for `branch` there is one on the second disk. 9: the journal on the disk is bad. 10: as
+/// there is a run on the disk; for `resume`, `edit`, `branch`, `moves`, `state`, and `zones` without
+/// a pair, there is none; for `branch` there is one on the second disk. 9: the journal on the disk is bad. 10: as
 /// many records were made as the call allows. 12: out of memory, or a thread was refused. 13: a
 /// file is missing or too long. 14: the journal has as many records as it may have, or for `edit`
 /// no room for the edits. Of 6, 7, 3, 0, 14 and 10 the first is answered that holds of a run.

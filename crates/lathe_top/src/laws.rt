@@ -4,7 +4,9 @@
 //! comes to.
 ghost use Rattle.std.specs.Prelude.{◌≡◌, ℕ, ◌+◌, ◌*◌, ◌≤◌, List, length};
 ghost use Rattle.command_words.specs.Listed.{listed_command};
+ghost use Rattle.nc_number.specs.declared.both.Both.{Both};
 ghost use Rattle.nc_number.specs.declared.path.Path.{Path};
+ghost use Rattle.run_table.specs.declared.resting.Resting.{Resting};
 ghost use Rattle.gate_file.specs.Chain.{IsNoRun};
 ghost use Rattle.run_journal.specs.Meaning.{a_run};
 ghost use Rattle.run_records.specs.Entries.{Entry};
@@ -68,12 +70,13 @@ pub fn calls_make_one_history<D: Disk>()
     an_image_of_a_run_is_never_bad();
 }
 
-/// What is due to a turret by a session is its place and eight moves at most for each record that
-/// the session may make. (A record makes seven at most: `a_record_makes_seven_moves_at_most` of
-/// run_table.) So a turret that has room for so many calls, of which none fails, never stops a run.
+/// What is due to a turret by a session is its place, three rests at most that are of no record, and
+/// eight moves at most for each record that the session may make. (A record tells seven things at most:
+/// `a_record_makes_seven_moves_at_most` of run_table.) So a turret that has room for so many calls, of
+/// which none fails, never stops a run.
 pub fn a_session_hands_eight_moves_a_record_at_most()
-    ensures { (s : Session) (limit upto : ℕ) (path : Path) → upto ≤ length s.history
-        → length s.history ≤ length s.found + limit → length (due_to s upto path) ≤ 1 + 8 * limit }
+    ensures { (s : Session) (limit upto : ℕ) (resting : Both Resting) (path : Path) → upto ≤ length s.history
+        → length s.history ≤ length s.found + limit → length (due_to s upto resting path) ≤ 4 + 8 * limit }
 {
     a_record_makes_seven_moves_at_most();
 }

@@ -15,7 +15,7 @@ ghost use Rattle.lathe_top.specs.Outside.{outside_in};
 use crate::branching::branch_off;
 use crate::editing::edit;
 use crate::held::{Ended, Lathe};
-use crate::looking::{answer_pair, look, show_zoned, write_out};
+use crate::looking::{answer_pair, judge_zones, look, show_zoned, write_out, write_plain};
 use crate::outcome::Outcome;
 use clap_reading::read_words;
 use command_words::{Command, Name, ProgramRange, WordsFault};
@@ -44,8 +44,10 @@ pub fn makes_run(command: &Command) -> bool
         Command::Moves => false,
         Command::State => false,
         Command::Zones(_) => false,
+        Command::ZonesOf(_, _, _, _) => false,
         Command::Branch(_) => false,
         Command::Expand(_) => false,
+        Command::Plain(_, _) => false,
     }
 }
 
@@ -171,8 +173,19 @@ pub(crate) fn perform_no_run<H: Shelf, D: Disk, E: Disk, T: Turret, K: Sink>(
         Command::Moves => (look(alloc, Showing::Moves, lathe, out), second),
         Command::State => (look(alloc, Showing::State, lathe, out), second),
         Command::Zones(zones) => (show_zoned(alloc, zones.as_str(), shelf, lathe, out), second),
+        Command::ZonesOf(zones, left, right, settings) => {
+            let names = names_of(left, right, settings);
+            (
+                judge_zones(alloc, zones.as_str(), &names, shelf, lathe, out),
+                second,
+            )
+        }
         Command::Branch(meetings) => branch_off(alloc, *meetings, lathe, second, out),
         Command::Expand(tape) => (write_out(alloc, tape.as_str(), shelf, lathe, out), second),
+        Command::Plain(tape, settings) => (
+            write_plain(alloc, tape.as_str(), name_in(settings), shelf, lathe, out),
+            second,
+        ),
         Command::Run(_, _, _, _, _) => unreachable!(),
         Command::Resume(_, _) => unreachable!(),
         Command::Make(_, _) => unreachable!(),

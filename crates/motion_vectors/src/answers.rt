@@ -35,7 +35,7 @@ fn word(answer: &Next) -> &'static str {
     match answer {
         Next::Silent => "silent",
         Next::Moves(_) => "moves",
-        Next::Drain => "drain",
+        Next::Drain(_) => "drain",
         Next::Finished => "finished",
         Next::Halted(_) => "halted",
     }
@@ -52,7 +52,7 @@ fn it_answers_its_list_and_keeps_every_call(rt: HostRuntime) -> Result<(), Fail>
     let mut answers = Vec::new(alloc);
     let list = MoveList::empty();
     answers.push(Next::Moves(Moves { line: 4, list }))?;
-    answers.push(Next::Drain)?;
+    answers.push(Next::Drain(101))?;
     let mut stepper = ListStepper::new(&rt, alloc, answers);
     assert_eq!(rt; step(&mut stepper, Path::One), "moves");
     assert_eq!(rt; step(&mut stepper, Path::One), "drain");

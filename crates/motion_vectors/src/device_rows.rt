@@ -5,7 +5,8 @@ use crate::words::{count, lines_of, point, small};
 use nc_moves::Move;
 use nc_number::Point;
 use nc_outside::{
-    FetchFault, Got, LinedMove, MemoryShelf, MemoryTurret, PutFault, Shelf, Sink, Turret, VecSink,
+    FetchFault, Got, LinedMove, MemoryShelf, MemoryTurret, PutFault, Rest, Shelf, Sink, Turret,
+    VecSink,
 };
 use std::alloc::Global;
 use std::test::Fail;
@@ -30,7 +31,7 @@ lost|records |1|failed
 7~|records 7~|1|put";
 
 /// A move, a place or a settle, how often the turret has failed, and what it answers. It has room
-/// for two; the second and the third move or place fail, and the second settle.
+/// for three; the second and the third move or place fail, and the second settle.
 const TURRET: &str = "\
 to X50. Z0|0|taken
 settle|0|taken
@@ -40,7 +41,7 @@ settle|3|failed
 aux M9|3|taken
 aux M30|4|failed
 aux M30|5|failed
-settle|5|taken";
+settle|6|failed";
 
 /// The line of the block whose moves are handed.
 const LINE: u32 = 7;
@@ -95,7 +96,7 @@ fn hand_holds(turret: &mut MemoryTurret, row: &str) -> bool {
     let (call, rest) = row.split_once('|').unwrap_or((row, ""));
     let answer = match move_of(call) {
         Some(what) => turret.hand(&LinedMove { line: LINE, what }).is_ok(),
-        None if call == "settle" => turret.settle().is_ok(),
+        None if call == "settle" => turret.settle(Rest::Wait(101)).is_ok(),
         None => turret.place(point(call)).is_ok(),
     };
     is_told(
@@ -140,7 +141,7 @@ fn a_planned_call_fails_and_writes_nothing(rt: HostRuntime) -> Result<(), Fail> 
 
 #[test]
 fn a_planned_call_and_one_past_the_room_fail_and_add_nothing(rt: HostRuntime) -> Result<(), Fail> {
-    let mut turret = MemoryTurret::with_plans(rt.alloc(), 2, &[3, 2, 0], &[2])?;
+    let mut turret = MemoryTurret::with_plans(rt.alloc(), 3, &[3, 2, 0], &[2])?;
     for row in TURRET.lines() {
         assert!(&rt; hand_holds(&mut turret, row), "{row}");
     }
@@ -149,7 +150,11 @@ fn a_planned_call_and_one_past_the_room_fail_and_add_nothing(rt: HostRuntime) ->
         line: LINE,
         what: Move::Aux { m: 9 },
     };
-    let got = [Got::Placed(at), Got::Moved(moved)];
+    let got = [
+        Got::Placed(at),
+        Got::Rested(Rest::Wait(101)),
+        Got::Moved(moved),
+    ];
     assert_eq!(&rt; turret.got(), got.as_slice());
     Ok(())
 }

@@ -1,12 +1,12 @@
 -- The lines of moves, as a turret writes them and as a report has them.
 use Rattle.std.proofs.Common.{◌≡◌, List, [], ◌∷◌, ◌++◌, map, refl, sym, ap, ◌∙◌, append_assoc}
-use Rattle.std.specs.List.{flat_map}
 use Rattle.nc_number.specs.declared.path.Path.{Path}
 use Rattle.nc_number.specs.declared.point.Point.{Point}
 use Rattle.nc_outside.specs.declared.got.Got.TheVariants.{Placed, Moved}
 use Rattle.nc_outside.specs.declared.lined_move.LinedMove.{LinedMove}
 use Rattle.move_text.specs.MoveText.{placed_text}
-use Rattle.turret_lines.specs.Stream.{got_text, stream_of}
+use Rattle.turret_lines.specs.Meetings.{no_standing}
+use Rattle.turret_lines.specs.Stream.{lines_from, stream_of}
 use Rattle.run_records.specs.Entries.{Entry}
 use Rattle.two_path.specs.Histories.{behind_entry, fold}
 use Rattle.two_path.specs.Machine.{MachineView}
@@ -15,8 +15,8 @@ use Rattle.two_path.specs.Made.{moves_made_by, moves_in, moves_of, turns_from}
 use Rattle.move_list.specs.Report.{lined_text, lines_text}
 use Rattle.two_path.proofs.Replays.{turn_at}
 
--- the lines that a turret writes of its moves are those of a report
-lines_same : (moves : List LinedMove) → flat_map got_text (map Moved moves) ≡ lines_text moves
+-- the lines that a turret writes of its moves, without a wait, are those of a report
+lines_same : (moves : List LinedMove) → lines_from no_standing (map Moved moves) ≡ lines_text moves
 lines_same [] = refl
 lines_same (made ∷ moves) = ap (λ rest. lined_text made ++ rest) (lines_same moves)
 

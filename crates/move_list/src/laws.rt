@@ -13,8 +13,8 @@ ghost use Rattle.two_path.specs.Turns.{Tapes};
 ghost use Rattle.two_path.specs.Made.{moves_of};
 ghost use Rattle.move_list.specs.Report.{head_text, lines_text, path_text};
 
-/// A turret that was placed at a point, got exactly these moves and writes what it gets, writes the
-/// line of its place and then exactly the lines that a report has for these moves.
+/// A turret that was placed at a point, got exactly these moves and no wait, and writes what it gets,
+/// writes the line of its place and then exactly the lines that a report has for these moves.
 pub fn law_of_streams()
     ensures stream { (at : Point) (moves : List LinedMove)
         → stream_of (Placed at ∷ map Moved moves) ≡ placed_text at ++ lines_text moves }

@@ -1,5 +1,6 @@
-//! What a turret got: its place, or a move. The contracts of lines, workers and runs list it.
-use crate::LinedMove;
+//! What a turret got: its place, a move, or a rest. The contracts of lines, workers and runs list
+//! it.
+use crate::{LinedMove, Rest};
 use nc_number::Point;
 
 /// One thing that a turret got.
@@ -9,4 +10,6 @@ pub enum Got {
     Placed(Point),
     /// The turret got a move, with the line of its block.
     Moved(LinedMove),
+    /// The turret made all that it got before, and stood still.
+    Rested(Rest),
 }

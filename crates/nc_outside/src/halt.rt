@@ -26,9 +26,9 @@ pub enum Next {
     Silent,
     /// The moves of a block, for the turret.
     Moves(Moves),
-    /// The path comes to a wait, and goes on once its turret has made what was answered before and
-    /// stands still.
-    Drain,
+    /// The path comes to the wait of this code, and goes on once its turret has made what was
+    /// answered before and stands still.
+    Drain(u16),
     /// The path has ended.
     Finished,
     /// The run has stopped.
@@ -43,7 +43,7 @@ impl Next {
         match self {
             Next::Silent => Next::Silent,
             Next::Moves(moves) => Next::Moves(moves.copy()),
-            Next::Drain => Next::Drain,
+            Next::Drain(code) => Next::Drain(*code),
             Next::Finished => Next::Finished,
             Next::Halted(why) => Next::Halted(*why),
         }

@@ -5,7 +5,8 @@
 //! its count of faults. It answers that it failed only if that count rose, so that the layers above
 //! can say of every failure that the outside was its cause; a call that did not fail leaves the
 //! count as it was. A shelf tells what it was asked for. A turret may queue what it gets, and
-//! `settle` waits until it stands still. A stepper tells its calls: its steps with their answers,
+//! `settle` waits until it stands still; it tells the turret where its path rests (`Rest`), and
+//! what a turret got has the rests and the moves in order. A stepper tells its calls: its steps with their answers,
 //! its drains and its halts. The forms in memory (`MemoryShelf`, `VecSink`, `MemoryTurret`,
 //! `ListStepper`) tell all, and fail exactly as planned; if an object tells nothing, as a real file,
 //! no clause speaks of what it holds.
@@ -22,6 +23,7 @@ mod memory_shelf;
 mod memory_turret;
 mod plan;
 mod reason;
+mod rest;
 mod shelf;
 mod sink;
 mod stepper;
@@ -37,6 +39,7 @@ pub use memory_shelf::MemoryShelf;
 pub use memory_turret::MemoryTurret;
 pub use nc_number::Failed;
 pub use reason::Reason;
+pub use rest::Rest;
 pub use shelf::{FetchFault, Shelf};
 pub use sink::{PutFault, Sink};
 pub use stepper::{Call, Drainable, Stepper};

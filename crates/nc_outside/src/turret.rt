@@ -2,7 +2,7 @@
 ghost use Rattle.std.specs.Prelude.{◌≡◌, [], ◌∷◌, IsErr, OnOk, OnErr};
 ghost use Rattle.nc_outside.specs.Faults.{CountsFault};
 
-use crate::{Got, LinedMove};
+use crate::{Got, LinedMove, Rest};
 use nc_number::{Failed, Point};
 
 /// A turret of the lathe, which means the list of what it got, in order. A call that failed adds
@@ -10,10 +10,10 @@ use nc_number::{Failed, Point};
 ///
 /// It can be dropped, so that a thread can own it.
 pub trait Turret: Drop {
-    ghost use Rattle.nc_outside.specs.Received.{TurretState, Receives, Settles};
+    ghost use Rattle.nc_outside.specs.Received.{TurretState, Receives};
 
-    /// What the turret got, how many calls it has had and how often it was to settle, if it tells
-    /// that, and how often it has failed.
+    /// What the turret got and how many calls it has had, if it tells that, and how often it has
+    /// failed.
     ghost state: { Self → TurretState };
 
     /// How often the turret has failed.
@@ -34,8 +34,9 @@ pub trait Turret: Drop {
         ensures fault { CountsFault (state self.old).faults (state self.new).faults (IsErr result) };
 
     /// Waits until the turret has made every move that it got, and stands still: Ok says that it
-    /// does. This is neither a place nor a move, and is counted apart.
-    fn settle(&mut self) -> Result<(), Failed>
-        ensures settled { Settles (state self.old) (state self.new) }
+    /// does. It is told where its path stands then: at its place, before which wait, or at the end.
+    fn settle(&mut self, at: Rest) -> Result<(), Failed>
+        ensures ok { OnOk result (Receives (state self.old) (state self.new) (Got.Rested at ∷ []) 1) }
+        ensures err { OnErr result (Receives (state self.old) (state self.new) [] 1) }
         ensures fault { CountsFault (state self.old).faults (state self.new).faults (IsErr result) };
 }

@@ -1,6 +1,6 @@
 -- The line of a verdict as it is printed (src/writing.rt); and what it means that a text is put
 -- into a sink, whole or up to a fault.
-use Rattle.std.specs.Prelude.{◌≡◌, ◌≢◌, ℕ, List, ◌++◌, take, Option, Some, None, Result, OnOk, OnErr, IsErrOf, codes}
+use Rattle.std.specs.Prelude.{◌≡◌, ◌≢◌, ℕ, ◌+◌, ◌/◌, ◌%◌, ◌^◌, ◌==◌, List, [], ◌++◌, take, Option, Some, None, Result, OnOk, OnErr, IsErrOf, codes, if◌then◌else◌}
 use Rattle.nc_number.specs.declared.cause.Cause.{Cause}
 use Rattle.nc_number.specs.declared.cause.Cause.TheVariants.{BadSetting, TooManyLabels, WaitMismatch}
 use Rattle.nc_number.specs.Causes.{cause_number}
@@ -31,10 +31,25 @@ about_text (Some TooManyLabels) refusal = text_with_number (codes " path ") refu
 about_text (Some WaitMismatch) refusal = mismatch_text refusal
 about_text other refusal = place_text refusal.path refusal.line
 
+-- a block-skip switch after a blank, if it is on: bit n is switch n
+abbrev pub switch_text : ℕ → ℕ → List ℕ
+switch_text switches n = if (switches / 2 ^ n) % 2 == 1 then text_with_number (codes " ") n else []
+
+-- three switches, from n on
+unfoldable pub switches_text : ℕ → ℕ → List ℕ
+switches_text switches n = switch_text switches n ++ (switch_text switches (n + 1) ++ switch_text switches (n + 2))
+
+-- the position of the nine switches at which a pair is refused: ` skip 1 3 on`; nothing if none is
+-- on
+unfoldable pub position_text : ℕ → List ℕ
+position_text switches =
+    if switches == 0 then []
+    else codes " skip" ++ (switches_text switches 1 ++ (switches_text switches 4 ++ (switches_text switches 7 ++ codes " on")))
+
 -- a refusal of this cause as a line: `refused 65 BranchAtWait path 1 line 3`
 unfoldable pub refused_text : Option Cause → Refusal → List ℕ
 refused_text cause refusal =
-    text_with_number (codes "refused ") refusal.number ++ name_text cause ++ about_text cause refusal ++ codes "\n"
+    text_with_number (codes "refused ") refusal.number ++ name_text cause ++ about_text cause refusal ++ position_text refusal.switches ++ codes "\n"
 
 -- the line of a verdict, which is none or one refusal, is this text
 abbrev pub IsVerdictText : Option Refusal → List ℕ → Type 0

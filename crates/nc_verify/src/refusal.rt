@@ -1,6 +1,6 @@
 //! Why a pair is refused: the number, the path and the lines. writing.rt writes it as a line.
 ghost use Rattle.std.specs.Prelude.{◌≡◌};
-ghost use Rattle.nc_verify.specs.Refusals.{at_setting, at_line, too_long, mismatch};
+ghost use Rattle.nc_verify.specs.Refusals.{at_setting, at_line, too_long, mismatch, at_position};
 
 use cell_settings::SettingFault;
 use label_list::PairFault;
@@ -22,6 +22,9 @@ pub struct Refusal {
     pub other: u32,
     /// If the labels differ, how many labels before are equal; else 0.
     pub after: u32,
+    /// The block-skip switches that are on in both paths at the position where the pair is refused:
+    /// bit n is switch n. It is 0 for a refusal that does not depend on a position of the switches.
+    pub switches: u16,
 }
 
 impl Refusal {
@@ -35,6 +38,7 @@ impl Refusal {
             line: fault.line,
             other: 0,
             after: 0,
+            switches: 0,
         }
     }
 
@@ -48,6 +52,7 @@ impl Refusal {
             line,
             other: 0,
             after: 0,
+            switches: 0,
         }
     }
 
@@ -68,6 +73,14 @@ impl Refusal {
             line: fault.line,
             other: fault.other,
             after: fault.after,
+            switches: 0,
         }
+    }
+
+    /// This refusal, told at a position of the block-skip switches: bit n is switch n.
+    pub fn at_position(self, switches: u16) -> Self
+        ensures { result ≡ at_position switches self }
+    {
+        Refusal { switches, ..self }
     }
 }

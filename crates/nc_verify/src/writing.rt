@@ -3,7 +3,7 @@
 ghost use Rattle.std.specs.Prelude.{◌≡◌, ◌+◌, ◌≤◌, ℕ, List, ◌++◌, length, codes};
 ghost use Rattle.std.specs.Option.{option_copied};
 ghost use Rattle.text_pieces.specs.declared.piece.TheConstants.{MOST_BYTES};
-ghost use Rattle.nc_verify.specs.Printed.{IsPut, IsVerdictText, about_text, mismatch_text, other_text, refused_text};
+ghost use Rattle.nc_verify.specs.Printed.{IsPut, IsVerdictText, about_text, mismatch_text, other_text, position_text, refused_text, switch_text, switches_text};
 
 use crate::putting::put_piece;
 use crate::refusal::Refusal;
@@ -48,6 +48,48 @@ fn add_about(piece: &mut Piece, cause: Option<Cause>, refusal: &Refusal)
     }
 }
 
+/// Adds a block-skip switch after a blank, if it is on: bit n is switch n.
+fn add_switch(piece: &mut Piece, switches: u16, switch: u8)
+    requires room { length piece.old + 21 ≤ MOST_BYTES }
+    requires switch { switch ≤ 9 }
+    ensures text { piece.new ≡ piece.old ++ switch_text switches switch }
+    ensures size { length piece.new ≤ length piece.old + 21 }
+{
+    if (switches >> switch) % 2 == 1 {
+        piece.add_numbered(b" ", u64::from(switch));
+    }
+}
+
+/// Adds three switches, from one on.
+#[tactic(auto, unfolding(crate::specs::Printed::switches_text))]
+fn add_switches(piece: &mut Piece, switches: u16, switch: u8)
+    requires room { length piece.old + 63 ≤ MOST_BYTES }
+    requires switch { switch ≤ 7 }
+    ensures text { piece.new ≡ piece.old ++ switches_text switches switch }
+    ensures size { length piece.new ≤ length piece.old + 63 }
+{
+    add_switch(piece, switches, switch);
+    add_switch(piece, switches, switch + 1);
+    add_switch(piece, switches, switch + 2);
+}
+
+/// Adds the position of the block-skip switches at which a pair is refused, if one is on.
+#[tactic(auto, unfolding(crate::specs::Printed::position_text))]
+fn add_position(piece: &mut Piece, switches: u16)
+    requires { length piece.old + 197 ≤ MOST_BYTES }
+    ensures text { piece.new ≡ piece.old ++ position_text switches }
+    ensures size { length piece.new ≤ length piece.old + 197 }
+{
+    if switches == 0 {
+        return;
+    }
+    piece.add(b" skip");
+    add_switches(piece, switches, 1);
+    add_switches(piece, switches, 4);
+    add_switches(piece, switches, 7);
+    piece.add(b" on");
+}
+
 /// The line of a refusal of this cause.
 #[tactic(auto, unfolding(crate::specs::Printed::refused_text))]
 fn refused_line(cause: Option<Cause>, refusal: &Refusal) -> Piece
@@ -57,6 +99,7 @@ fn refused_line(cause: Option<Cause>, refusal: &Refusal) -> Piece
     piece.add_numbered(b"refused ", u64::from(refusal.number));
     piece.add_name(cause);
     add_about(&mut piece, cause, refusal);
+    add_position(&mut piece, refusal.switches);
     piece.add(b"\n");
     piece
 }

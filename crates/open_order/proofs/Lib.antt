@@ -3,3 +3,5 @@ pub mod Listed
 pub mod Refused
 pub mod Within
 pub mod FirstRefused
+pub mod Counted
+pub mod Gathered

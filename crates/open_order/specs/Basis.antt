@@ -12,4 +12,4 @@ basis reading = record { premises = reading.premises; tape = reading.tape.now }
 -- what the code keeps as taken on trust, as the record of Trusted
 abbrev pub trust_view : Trust → TrustView
 trust_view trust =
-    record { geometry = trust.geometry.keys; auxiliary = trust.auxiliary.keys; programs = trust.programs.keys }
+    record { geometry = trust.geometry.keys; auxiliary = trust.auxiliary.keys; programs = trust.programs.keys; switches = trust.switches.items }

@@ -17,7 +17,7 @@ use Rattle.block_order.specs.declared.control.Control.TheVariants.{Wait, End, Ca
 use Rattle.block_order.specs.declared.program.ControlBlock.{ControlBlock}
 use Rattle.block_order.specs.declared.program.ControlProgram.{ControlProgram}
 use Rattle.block_order.specs.Loud.{loud}
-use Rattle.block_order.specs.Order.{blocks, seek}
+use Rattle.block_order.specs.Order.{blocks, has_sequence, first_numbered}
 use Rattle.tape_flow.specs.declared.fault.FlowFault.{FlowFault}
 use Rattle.block_words.specs.Words.{is_one_of}
 use Rattle.open_forms.specs.Codes.{is_g}
@@ -72,10 +72,12 @@ abbrev pub is_calm : (ℕ → Bool) → List ControlBlock → ℕ → ℕ → Bo
 is_calm loud bs first last =
     nat_le first last && not (list_any (λ b. disturbs loud b.control) (blocks_between bs first last))
 
--- the place of the last block of the contour whose first block is at this place, if the program has
--- it
-abbrev pub last_block : List ControlBlock → Contour → ℕ → Option ℕ
-last_block bs contour first = if contour.from == contour.to then Some first else seek bs first contour.to
+-- the place of the last of these blocks with this sequence number, or else the one that was found
+-- before; the first of them stands at a place
+abbrev pub last_numbered : Option ℕ → List ControlBlock → ℕ → ℕ → Option ℕ
+last_numbered found [] place n = found
+last_numbered found (b ∷ bs) place n =
+    last_numbered (if has_sequence n b.sequence then Some place else found) bs (suc place) n
 
 -- the fault of a contour from this first to this last block, of which the last may be missing (50)
 abbrev pub fault_between : (ℕ → Bool) → List ControlBlock → ℕ → Option ℕ → Option Cause
@@ -85,37 +87,37 @@ fault_between loud bs first (Some last) = if is_calm loud bs first last then Non
 -- the fault of a contour from this first block, which may be missing (50)
 abbrev pub fault_from : (ℕ → Bool) → List ControlBlock → Contour → Option ℕ → Option Cause
 fault_from loud bs contour None = Some NoSequence
-fault_from loud bs contour (Some first) = fault_between loud bs first (last_block bs contour first)
+fault_from loud bs contour (Some first) = fault_between loud bs first (last_numbered None bs 0 contour.to)
 
--- What is wrong with the contour of a cycle at a place of a program, which is the index of its
--- block: 50 if the program lacks one of its numbers; else 65 if it ends before it begins, or a
--- block of it may not stand in a contour. Nothing if the block names no contour.
-abbrev pub contour_cause : (ℕ → Bool) → List ControlBlock → ℕ → Option Contour → Option Cause
-contour_cause loud bs place None = None
-contour_cause loud bs place (Some contour) = fault_from loud bs contour (seek bs place contour.from)
+-- What is wrong with a contour: 50 if the program lacks one of its numbers; else 65 if it ends before
+-- it begins, or a block of it may not stand in a contour. Nothing if the block names no contour. A
+-- contour whose number stands twice is the widest that may be meant: from the first block of P to the
+-- last one of Q.
+abbrev pub contour_cause : (ℕ → Bool) → List ControlBlock → Option Contour → Option Cause
+contour_cause loud bs None = None
+contour_cause loud bs (Some contour) = fault_from loud bs contour (first_numbered bs 0 contour.from)
 
 -- the fault of a contour, if it has one, told at the line of its cycle
 abbrev pub fault_at : ℕ → Option Cause → Option FlowFault
 fault_at line None = None
 fault_at line (Some cause) = Some (record { number = cause_number cause; line = line })
 
--- the fault of the contour that a block at a place of a program names, told at the block's line
-abbrev pub block_fault : (ℕ → Bool) → List ControlBlock → ℕ → Block → Option FlowFault
-block_fault loud bs place block = fault_at block.line (contour_cause loud bs place (contour_in block.body))
+-- the fault of the contour that a block of a program names, told at the block's line
+abbrev pub block_fault : (ℕ → Bool) → List ControlBlock → Block → Option FlowFault
+block_fault loud bs block = fault_at block.line (contour_cause loud bs (contour_in block.body))
 
 -- the first fault if there is one, else the later
 abbrev pub or_later : Option FlowFault → Option FlowFault → Option FlowFault
 or_later (Some fault) later = Some fault
 or_later None later = later
 
--- the first fault of a contour of these blocks, which stand in the program from a place on
-abbrev pub blocks_fault : (ℕ → Bool) → List ControlBlock → ℕ → List Block → Option FlowFault
-blocks_fault loud bs place [] = None
-blocks_fault loud bs place (block ∷ rest) =
-    or_later (block_fault loud bs place block) (blocks_fault loud bs (suc place) rest)
+-- the first fault of a contour of these blocks, in a program with these blocks
+abbrev pub blocks_fault : (ℕ → Bool) → List ControlBlock → List Block → Option FlowFault
+blocks_fault loud bs [] = None
+blocks_fault loud bs (block ∷ rest) = or_later (block_fault loud bs block) (blocks_fault loud bs rest)
 
 -- the first fault of a contour of these programs, on a tape with this order
 abbrev pub contour_fault : List ControlProgram → List Program → Option FlowFault
 contour_fault order [] = None
 contour_fault order (program ∷ rest) =
-    or_later (blocks_fault (loud order) (blocks order program.number) 0 program.blocks) (contour_fault order rest)
+    or_later (blocks_fault (loud order) (blocks order program.number) program.blocks) (contour_fault order rest)

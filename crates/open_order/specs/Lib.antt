@@ -4,7 +4,10 @@
 pub mod Gone
 pub mod Reading
 pub mod Contours
+pub mod Counts
+pub mod Doubles
 pub mod Exact
 pub mod Least
+pub mod Together
 pub mod Trusted
 pub mod Basis

@@ -22,6 +22,7 @@ use Rattle.open_order.specs.declared.premises.Premises.{Premises}
 use Rattle.open_order.specs.Contours.{has_code, is_macro_code}
 use Rattle.open_order.specs.Reading.{Basis, gone_from}
 use Rattle.open_order.specs.declared.code.Code.{Code}
+use Rattle.open_order.specs.declared.hanging.Hanging.{Hanging}
 use Rattle.open_order.specs.declared.code.Code.TheVariants.{Geometry, Auxiliary, Subprogram}
 
 -- what is taken on trust, each number once and in rising order
@@ -32,17 +33,19 @@ pub record TrustView : Type 0 where
   pub auxiliary : List ℕ
   -- O numbers of programs that are called and that the tapes lack
   pub programs : List ℕ
+  -- block-skip switches that change the waits or the end of a path
+  pub switches : List Hanging
 
 -- nothing is taken on trust
 abbrev pub no_trust : TrustView
-no_trust = record { geometry = []; auxiliary = []; programs = [] }
+no_trust = record { geometry = []; auxiliary = []; programs = []; switches = [] }
 
 -- whether the list is empty
 abbrev pub is_none : List ℕ → Bool
 is_none [] = true
 is_none (x ∷ xs) = false
 
--- whether nothing is taken on trust
+-- whether no code and no program is taken on trust
 abbrev pub is_nothing : TrustView → Bool
 is_nothing trust = (is_none trust.geometry && is_none trust.auxiliary) && is_none trust.programs
 

@@ -8,7 +8,10 @@
 
 mod code;
 mod contour;
+mod counts;
 mod cycles;
+mod doubles;
+mod hanging;
 mod laws;
 mod ordering;
 mod outside;
@@ -16,10 +19,13 @@ mod premises;
 mod reading;
 mod trusting;
 
+pub use hanging::Hanging;
 pub use ordering::open_order;
 pub use outside::Outside;
 pub use premises::Premises;
 pub use trusting::{Trust, add_tape, no_trust};
 
 // For users of the library: laws that no crate of the program takes.
-pub use laws::the_first_refused_block_has_the_least_line;
+pub use laws::{
+    a_jump_may_take_any_block_of_its_number, the_first_refused_block_has_the_least_line,
+};

@@ -1,18 +1,19 @@
 //! The order of the blocks of a tape, read for its waits alone, or the tape's one refusal: of a
-//! block, else of the order, else of a contour.
+//! block, else of the order, else of a jump to a number that stands twice, else of a contour.
 ghost use Rattle.std.specs.Prelude.{◌≡◌, IfOk, IfErr};
 ghost use Rattle.block_order.specs.Answers.{IfFault};
 ghost use Rattle.block_order.specs.Faults.{IsSound};
 ghost use Rattle.block_order.specs.Shape.{IsReadTape};
 ghost use Rattle.tape_flow.specs.Exact.{IsOrderFault};
 ghost use Rattle.nc_text.specs.Shape.{IsTapeShape};
-ghost use Rattle.open_order.specs.Exact.{IsOrdered, IsRefused};
+ghost use Rattle.open_order.specs.Exact.{late_fault, IsOrdered, IsRefused};
 
 use crate::cycles::contour_fault;
+use crate::doubles::double_fault;
 use crate::premises::Premises;
 use crate::reading::read_tape;
 use block_order::{BlockOrder, ControlProgram};
-use nc_number::Failing;
+use nc_number::{Failing, NoMemory};
 use nc_text::Program;
 use std::alloc::Global;
 use tape_flow::FlowFault;
@@ -36,11 +37,30 @@ fn order_of(alloc: Global, programs: Vec<ControlProgram>) -> Result<BlockOrder, 
     }
 }
 
+/// The first fault of a jump to a number that stands twice, else of a contour. The only error is out of
+/// memory.
+fn late_fault(
+    alloc: Global,
+    order: &BlockOrder,
+    tape: &[Program],
+) -> Result<Option<FlowFault>, NoMemory>
+    requires { IsTapeShape tape.now }
+    ensures { IfOk result (λ found. found ≡ late_fault order.now tape.now) }
+{
+    let doubled = double_fault(alloc, order)?;
+    if doubled.is_some() {
+        return Ok(doubled);
+    }
+    let found = contour_fault(alloc, order, tape)?;
+    Ok(found)
+}
+
 /// The order of the blocks of a tape, or its refusal, or that memory ran out.
 ///
 /// The refusal is that of the first block that is refused. If none is, it is one of the order of
-/// the blocks: 60 or 52 first, then 50, 51 or 53, then 65 or 66. If that is in order, it is 50 or
-/// 65 of a contour. The numbers are those of docs/ERRORS.md.
+/// the blocks: 60 or 52 first, then 50, 51 or 53, then 65 or 66. If that is in order, it is 65 of a
+/// jump to a number that its program has twice, once in another stretch; else 50 or 65 of a contour.
+/// The numbers are those of docs/ERRORS.md.
 pub fn open_order(
     alloc: Global,
     premises: Premises,
@@ -59,7 +79,11 @@ pub fn open_order(
         Ok(order) => order,
         Err(error) => return Err(error),
     };
-    match contour_fault(&order, tape) {
+    let found = match late_fault(alloc, &order, tape) {
+        Ok(found) => found,
+        Err(_) => return Err(Failing::NoMemory),
+    };
+    match found {
         Some(fault) => Err(Failing::Fault(fault)),
         None => Ok(order),
     }

@@ -7,6 +7,7 @@ ghost use Rattle.open_order.specs.Trusted.{no_trust, with_code, with_words, with
 
 use crate::code::{Code, called_outside, word_code};
 use crate::contour::is_macro_call;
+use crate::hanging::Hanging;
 use crate::premises::Premises;
 use crate::reading::Reading;
 use block_forms::Dialect;
@@ -24,6 +25,9 @@ pub struct Trust {
     pub auxiliary: BTreeSet<u32>,
     /// The O numbers of programs that are called and that the tapes lack.
     pub programs: BTreeSet<u16>,
+    /// The block-skip switches that change the waits or the end of a path, in rising order. Blocks
+    /// name none: who judges a pair at each position of its switches puts them here.
+    pub switches: Vec<Hanging>,
 }
 
 impl Trust {
@@ -31,7 +35,7 @@ impl Trust {
     ghost use Rattle.open_order.specs.Basis.{trust_view};
     ghost use Rattle.open_order.specs.Trusted.{is_nothing};
 
-    /// Whether nothing is taken on trust.
+    /// Whether no code and no program is taken on trust.
     pub fn is_empty(&self) -> bool
         ensures { result ≡ is_nothing (trust_view self.now) }
     {
@@ -47,6 +51,7 @@ pub fn no_trust(alloc: Global) -> Trust
         geometry: BTreeSet::new(alloc),
         auxiliary: BTreeSet::new(alloc),
         programs: BTreeSet::new(alloc),
+        switches: Vec::new(alloc),
     }
 }
 

@@ -2,13 +2,13 @@
 //! lies beside it (`data`), and says what each turret got (`stdout`). No crate uses it.
 //!
 //! A real turret drives its axes in `hand`. It may queue moves and look ahead: `settle` waits until
-//! it stands still, and is called before the path comes to a wait, and at the end. A call that
+//! it stands still, and is called at the place, before each wait with its code, and at the end. A call that
 //! fails stops the run, and is counted.
 #![tactic(auto)]
 
 use lathe_top::top;
 use nc_number::Point;
-use nc_outside::{Failed, LinedMove, Turret};
+use nc_outside::{Failed, LinedMove, Rest, Turret};
 use real_outside::{Access, FileDisk, FileShelf, StdSink, SystemFolder};
 
 /// A turret that counts its moves, and keeps the line of the last one.
@@ -43,7 +43,7 @@ impl Turret for OwnTurret {
     }
 
     /// It always stands still.
-    fn settle(&mut self) -> Result<(), Failed> {
+    fn settle(&mut self, _at: Rest) -> Result<(), Failed> {
         Ok(())
     }
 }

@@ -1,6 +1,6 @@
 -- The answers of a worker, one after another: its calls, and the items that it sends. `run_path`
 -- (src/worker.rt), `run_lane` (src/lane.rt) and Driving.antt rest on it.
-use Rattle.std.proofs.Common.{arith, ◌≡◌, ◌+◌, ℕ, List, [], ◌∷◌, ◌++◌, length, map, flat_map, refl, ap, sym, ◌∙◌, subst, append_assoc, Option, Some, None}
+use Rattle.std.proofs.Common.{arith, ◌≡◌, All, ◌+◌, ℕ, List, [], ◌∷◌, ◌++◌, length, map, flat_map, refl, ap, sym, ◌∙◌, subst, append_assoc, Option, Some, None}
 use Rattle.std.proofs.lemmas.List.{length-append}
 use Rattle.std.proofs.lemmas.Grind.{flat_map-append}
 use Rattle.nc_number.specs.declared.path.Path.{Path}
@@ -10,12 +10,16 @@ use Rattle.nc_outside.specs.declared.halt.Next.{Next}
 use Rattle.nc_outside.specs.declared.halt.Next.TheVariants.{Silent, Moves, Drain, Finished, Halted}
 use Rattle.nc_outside.specs.declared.stepper.Call.{Call}
 use Rattle.nc_outside.specs.declared.stepper.Call.TheVariants.{Step}
-use Rattle.nc_outside.specs.Calls.{IsCalled, moves_of, moves_answered}
+use Rattle.nc_outside.specs.Calls.{IsCalled, moves_of, told_at, told_by}
 use Rattle.drive_line.specs.declared.item.Item.{Item}
 use Rattle.drive_line.specs.declared.item.Item.TheVariants.{Move}
-use Rattle.drive_line.specs.Line.{moves_among}
+use Rattle.drive_line.specs.Line.{moves_among, told_among}
+use Rattle.nc_outside.specs.declared.got.Got.{Got}
+use Rattle.nc_outside.specs.declared.got.Got.TheVariants.{Moved}
+use Rattle.std.proofs.lemmas.List.Elements.{All-head, All-tail}
 use Rattle.drive_line.proofs.Items.{moves_of_both}
-use Rattle.path_worker.specs.Work.{items_at, drained_at, calls_made, Works}
+use Rattle.path_worker.specs.Work.{items_at, drained_at, calls_made, told_at_end, Works, GoesOn, IsAnswerOf, IsWhole}
+use Rattle.path_worker.specs.declared.worker.Why.{Why}
 
 -- what got some calls and then others got all of them
 pub called_more : (a b c : Option (List Call)) (xs ys : List Call) → IsCalled a b xs → IsCalled b c ys → IsCalled a c (xs ++ ys)
@@ -34,7 +38,7 @@ moves_then (what ∷ moves) items = ap (λ l. what ∷ l) (moves_then moves item
 sent_at : (answer : Next) (items : List Item) → moves_among (items_at answer ++ items) ≡ moves_of answer ++ moves_among items
 sent_at Silent items = refl
 sent_at (Moves moves) items = moves_then (lined_moves moves) items
-sent_at Drain items = refl
+sent_at (Drain code) items = refl
 sent_at Finished items = refl
 sent_at (Halted why) items = refl
 
@@ -67,17 +71,49 @@ works_more path a b c old mid new xs ys p q =
           ∙ ap (λ l. old ++ l) (sym (flat_map-append items_at xs ys));
     }
 
--- the call at a drain answers no moves
-no_moves : (path : Path) (n : ℕ) (answer : Next) (calls : List Call) → moves_answered (drained_at path n answer ++ calls) ≡ moves_answered calls
-no_moves path n Silent calls = refl
-no_moves path n (Moves moves) calls = refl
-no_moves path n Drain calls = refl
-no_moves path n Finished calls = refl
-no_moves path n (Halted why) calls = refl
+-- what the moves of an answer tell stands before what the later items tell
+told_then : (moves : List LinedMove) (items : List Item) → told_among (map Move moves ++ items) ≡ map Moved moves ++ told_among items
+told_then [] items = refl
+told_then (what ∷ moves) items = ap (λ l. Moved what ∷ l) (told_then moves items)
 
--- the moves that were sent are those that the calls answered
-pub sent_is_answered : (path : Path) (n : ℕ) (answers : List Next) → moves_among (flat_map items_at answers) ≡ moves_answered (calls_made path n answers)
-sent_is_answered path n [] = refl
-sent_is_answered path n (x ∷ xs) =
+-- what is sent at an answer behind which the path goes on tells what the step answered
+told_sent : (answer : Next) (items : List Item) → GoesOn answer → told_among (items_at answer ++ items) ≡ told_at answer ++ told_among items
+told_sent Silent items goes = refl
+told_sent (Moves moves) items goes = told_then (lined_moves moves) items
+told_sent (Drain code) items goes = refl
+told_sent Finished items goes = absurd goes
+told_sent (Halted why) items goes = absurd goes
+
+-- the call at a drain answers nothing
+none_told : (path : Path) (n : ℕ) (answer : Next) (calls : List Call) → told_by (drained_at path n answer ++ calls) ≡ told_by calls
+none_told path n Silent calls = refl
+none_told path n (Moves moves) calls = refl
+none_told path n (Drain code) calls = refl
+none_told path n Finished calls = refl
+none_told path n (Halted why) calls = refl
+
+-- what is sent at the last answer tells the end of the path, if it has ended
+told_last : (path : Path) (n : ℕ) (last : Next) (why : Why) → IsAnswerOf last why
+    → told_among (flat_map items_at (last ∷ [])) ≡ told_by (calls_made path n (last ∷ [])) ++ told_at_end why
+told_last path n last Why.Finished is =
+    subst (λ (x : Next). told_among (flat_map items_at (x ∷ [])) ≡ told_by (calls_made path n (x ∷ [])) ++ told_at_end Why.Finished) (sym is) refl
+told_last path n last (Why.Halted why) is =
+    subst (λ (x : Next). told_among (flat_map items_at (x ∷ [])) ≡ told_by (calls_made path n (x ∷ [])) ++ told_at_end (Why.Halted why)) (sym is) refl
+
+-- what was sent tells what the calls answered, and then the end of the path, if it has ended
+told_all : (path : Path) (n : ℕ) (before : List Next) (last : Next) (why : Why) → All GoesOn before → IsAnswerOf last why
+    → told_among (flat_map items_at (before ++ last ∷ [])) ≡ told_by (calls_made path n (before ++ last ∷ [])) ++ told_at_end why
+told_all path n [] last why goes is = told_last path n last why is
+told_all path n (x ∷ before) last why goes is =
     let m = n + length (moves_of x) in
-    sent_at x (flat_map items_at xs) ∙ ap (λ l. moves_of x ++ l) (sent_is_answered path m xs ∙ sym (no_moves path n x (calls_made path m xs)))
+    let calls = calls_made path m (before ++ last ∷ []) in
+    told_sent x (flat_map items_at (before ++ last ∷ [])) (All-head GoesOn x before goes)
+    ∙ ap (λ l. told_at x ++ l) (told_all path m before last why (All-tail GoesOn x before goes) is ∙ ap (λ l. l ++ told_at_end why) (sym (none_told path n x calls)))
+    ∙ sym (append_assoc (told_at x) (told_by (drained_at path n x ++ calls)) (told_at_end why))
+
+-- what a worker sent in its whole run tells what its calls answered, and then the end of the path,
+-- if it has ended
+pub sent_is_answered : (path : Path) (n : ℕ) (answers : List Next) (why : Why) → IsWhole answers why
+    → told_among (flat_map items_at answers) ≡ told_by (calls_made path n answers) ++ told_at_end why
+sent_is_answered path n answers why whole =
+    subst (λ (l : List Next). told_among (flat_map items_at l) ≡ told_by (calls_made path n l) ++ told_at_end why) (sym whole.2) (told_all path n whole.0 whole.1 why whole.3 whole.4)

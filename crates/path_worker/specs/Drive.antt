@@ -6,7 +6,7 @@ use Rattle.nc_outside.specs.declared.halt.Halt.TheVariants.{Turret}
 use Rattle.nc_outside.specs.declared.stepper.Call.{Call}
 use Rattle.nc_outside.specs.declared.stepper.Call.TheVariants.{Halt}
 use Rattle.drive_line.specs.declared.item.Item.{Item}
-use Rattle.drive_line.specs.declared.item.Item.TheVariants.{Move, Mark, End}
+use Rattle.drive_line.specs.declared.item.Item.TheVariants.{Move, Mark, Finish, End}
 use Rattle.drive_line.specs.declared.phase.Phase.{Phase}
 use Rattle.drive_line.specs.declared.phase.Phase.TheVariants.{Moving, Still, Failed, Halted}
 
@@ -30,12 +30,13 @@ once_halted Still = Still
 once_halted Failed = Halted
 once_halted Halted = Halted
 
--- how a turret stands that served the item: after a move it may be on its way, at a mark and at the
--- end it stands still, or it failed
+-- how a turret stands that served the item: after a move it may be on its way, at a mark and where
+-- its path has ended it stands still, or it failed; the end of the line is none of its business
 abbrev pub StandsAt : Item → Phase → Type 0
 StandsAt (Move what) phase = (phase ≡ Moving) ⊎ (phase ≡ Failed)
-StandsAt Mark phase = (phase ≡ Still) ⊎ (phase ≡ Failed)
-StandsAt End phase = (phase ≡ Still) ⊎ (phase ≡ Failed)
+StandsAt (Mark code) phase = (phase ≡ Still) ⊎ (phase ≡ Failed)
+StandsAt Finish phase = (phase ≡ Still) ⊎ (phase ≡ Failed)
+StandsAt End phase = (phase ≡ Moving) ⊎ (phase ≡ Still)
 
 -- the turret stands still, or its fault has halted the run
 abbrev pub HasSettled : Phase → Type 0

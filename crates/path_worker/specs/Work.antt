@@ -1,6 +1,6 @@
 -- What the worker of a path does at the answers of its stepper: its calls, and what it sends along
 -- the drive line (src/worker.rt, src/lane.rt). No other crate cites this file, but the clauses of
--- `run_lane` have `calls_made` and `IsWhole`.
+-- `run_lane` have `calls_made`, `IsWhole` and `told_at_end`.
 use Rattle.std.specs.Prelude.{◌≡◌, ℕ, ◌+◌, List, [], ◌∷◌, ◌++◌, length, map, flat_map, Option, All}
 use Rattle.nc_number.specs.declared.path.Path.{Path}
 use Rattle.nc_outside.specs.declared.halt.Next.{Next}
@@ -10,23 +10,27 @@ use Rattle.nc_outside.specs.declared.stepper.Call.TheVariants.{Step, Drained}
 use Rattle.nc_outside.specs.Calls.{IsCalled, moves_of}
 use Rattle.nc_outside.specs.Lined.{lined_moves}
 use Rattle.drive_line.specs.declared.item.Item.{Item}
-use Rattle.drive_line.specs.declared.item.Item.TheVariants.{Move, Mark, End}
+use Rattle.drive_line.specs.declared.item.Item.TheVariants.{Move, Mark, Finish, End}
 use Rattle.drive_line.specs.Line.{moves_among}
+use Rattle.nc_outside.specs.declared.got.Got.{Got}
+use Rattle.nc_outside.specs.declared.got.Got.TheVariants.{Rested}
+use Rattle.nc_outside.specs.declared.rest.Rest.TheVariants as rest
 use Rattle.path_worker.specs.declared.worker.Why.{Why}
 
--- what a worker sends at an answer: its moves; at Drain a mark, which the drive answers once its
--- turret has every move before it and is at rest; and the end if the answer is the last
+-- what a worker sends at an answer: its moves; at Drain the mark of the wait, which the drive
+-- answers once its turret has every move before it and is at rest; if the answer is the last the
+-- end, before which it sends that the path has ended if it has
 abbrev pub items_at : Next → List Item
 items_at Silent = []
 items_at (Moves moves) = map Move (lined_moves moves)
-items_at Drain = Mark ∷ []
-items_at Finished = End ∷ []
+items_at (Drain code) = Mark code ∷ []
+items_at Finished = Finish ∷ End ∷ []
 items_at (Halted why) = End ∷ []
 
 -- the calls beside the step at an answer: at Drain one, that the line of the path was drained
 -- behind n moves; at any other answer none
 abbrev pub drained_at : Path → ℕ → Next → List Call
-drained_at path n Drain = Drained path n ∷ []
+drained_at path n (Drain code) = Drained path n ∷ []
 drained_at path n _ = []
 
 -- the calls that got these answers, of a worker whose line had n moves: a step each, and at Drain
@@ -59,3 +63,9 @@ IsAnswerOf answer (Why.Halted why) = answer ≡ Halted why
 -- ended
 abbrev pub IsWhole : List Next → Why → Type 0
 IsWhole answers why = (before : List Next) × (last : Next) × (answers ≡ before ++ last ∷ []) × All GoesOn before × IsAnswerOf last why
+
+-- what the turret of a path is told last, behind what the steps answered: its rest at the end of the
+-- path, unless the run has stopped before
+abbrev pub told_at_end : Why → List Got
+told_at_end Why.Finished = Rested rest.End ∷ []
+told_at_end (Why.Halted why) = []

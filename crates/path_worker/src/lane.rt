@@ -1,11 +1,11 @@
 //! The worker and the drive of a path in a thread each, over one line, and what is left of both.
-ghost use Rattle.std.specs.Prelude.{◌≡◌, [], List, false, true, length};
-ghost use Rattle.nc_outside.specs.Calls.{IsCalled, moves_answered};
+ghost use Rattle.std.specs.Prelude.{◌≡◌, [], ◌++◌, List, false, true};
+ghost use Rattle.nc_outside.specs.Calls.{IsCalled, told_by};
 ghost use Rattle.nc_outside.specs.declared.halt.Next.{Next as Answer};
-ghost use Rattle.drive_line.specs.Driving.{fresh_drive, has_failed, IsAtRest, Serves};
-ghost use Rattle.drive_line.specs.Line.{moves_among, has_end};
-ghost use Rattle.path_worker.specs.Drive.{halts_at, HasSettled};
-ghost use Rattle.path_worker.specs.Work.{Works, IsWhole, calls_made};
+ghost use Rattle.drive_line.specs.Driving.{fresh_drive, has_failed, Serves};
+ghost use Rattle.drive_line.specs.Line.{told_among, has_end};
+ghost use Rattle.path_worker.specs.Drive.{halts_at};
+ghost use Rattle.path_worker.specs.Work.{Works, IsWhole, calls_made, told_at_end};
 
 use crate::{Why, run_drive, run_path};
 use drive_line::{Drained, Driven, LineIn, LineOut, close_line};
@@ -93,8 +93,7 @@ fn drive<'r, R: Wait, H: Stepper + Drop, T: Turret>(
     requires line { (line.items ≡ []) × (line.asked ≡ false) }
     requires driven { driven ≡ fresh_drive driven.state }
     ensures line { (result.line.line ≡ line.entry.line) × (has_end result.line.items ≡ true) }
-    ensures serves { Serves (moves_among result.line.items) driven.state result.driven }
-    ensures rest { IsAtRest result.driven (length (moves_among result.line.items)) }
+    ensures serves { Serves (told_among result.line.items) driven.state result.driven }
     ensures halted { IsCalled (H.calls halter) (H.calls result.halter)
         (halts_at path (has_failed result.driven.phase)) }
     ensures origin { H.origin result.halter ≡ H.origin halter }
@@ -125,11 +124,10 @@ where
     T: Turret + Send,
     requires line { (ends.0.line ≡ ends.1.line) × (ends.0.items ≡ []) × (ends.1.items ≡ []) × (ends.1.asked ≡ false) }
     requires driven { lane.driven ≡ fresh_drive lane.driven.state }
-    ensures moves { (answers : List Answer)
+    ensures told { (answers : List Answer)
         × IsCalled (S.calls lane.stepper) (S.calls result.stepper) (calls_made path 0 answers)
         × IsWhole answers result.why
-        × Serves (moves_answered (calls_made path 0 answers)) lane.driven.state result.driven }
-    ensures rest { HasSettled result.driven.phase }
+        × Serves (told_by (calls_made path 0 answers) ++ told_at_end result.why) lane.driven.state result.driven }
     ensures halted { IsCalled (H.calls lane.halter) (H.calls result.halter)
         (halts_at path (has_failed result.driven.phase)) }
     ensures origins { (S.origin result.stepper ≡ S.origin lane.stepper)
@@ -154,8 +152,7 @@ where
         move || -> Drove<'_, H, T, R>
             requires { (line_out.items ≡ []) × (line_out.asked ≡ false) × (driven ≡ fresh_drive driven.state) }
             ensures line { (result.line.line ≡ line_out.entry.line) × (has_end result.line.items ≡ true) }
-            ensures serves { Serves (moves_among result.line.items) driven.state result.driven }
-            ensures rest { IsAtRest result.driven (length (moves_among result.line.items)) }
+            ensures serves { Serves (told_among result.line.items) driven.state result.driven }
             ensures halted { IsCalled (H.calls halter) (H.calls result.halter)
                 (halts_at path (has_failed result.driven.phase)) }
             ensures origin { H.origin result.halter ≡ H.origin halter }

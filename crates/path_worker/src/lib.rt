@@ -3,11 +3,12 @@
 //! blocks until the line is full or a wait comes.
 //!
 //! A worker (`run_path`) sends each step's moves once the step has answered, and where a step asks
-//! for that it drains the line and tells the stepper of it. A drive (`run_drive`) answers the mark
-//! of a drain once its turret stands still behind every move before it, so that a wait is recorded
-//! only then; where the turret failed it halts the run first. `run_lane` runs both, and promises:
-//! the turret got the moves that the stepper answered, all of them, or a prefix of them if it
-//! failed, and the caller is told how many the turret missed.
+//! for that it drains the line for a wait and tells the stepper of it. A drive (`run_drive`) answers
+//! the mark of a drain once its turret stands still behind every move before it, so that a wait is
+//! recorded only then; where the turret failed it halts the run first. `run_lane` runs both, and
+//! promises: the turret got what the stepper answered for it, moves and rests in order, and then its
+//! rest at the end of the path if the path has ended: all of that, or a prefix of it if it failed.
+//! The caller is told how many moves the turret missed.
 #![tactic(auto)]
 
 mod drive;

@@ -37,8 +37,9 @@ fn send_all<R: Wait>(line: &mut LineIn<'_, R>, moves: &Moves)
     }
 }
 
-/// One step of the path, and what follows its answer: its moves are sent, or the line is drained,
-/// or the end is sent. It says why the worker ends, if it does.
+/// One step of the path, and what follows its answer: its moves are sent, or the line is drained
+/// for a wait, or the end is sent, that of the path before it. It says why the worker ends, if it
+/// does.
 fn work_once<R: Wait, S: Stepper + Drainable<Drained>>(
     path: Path,
     stepper: &mut S,
@@ -58,12 +59,13 @@ fn work_once<R: Wait, S: Stepper + Drainable<Drained>>(
             send_all(line, &moves);
             None
         }
-        Next::Drain => {
-            let proof = line.drain();
+        Next::Drain(code) => {
+            let proof = line.drain(code);
             stepper.drained(path, proof);
             None
         }
         Next::Finished => {
+            line.finish();
             line.end_line();
             Some(Why::Finished)
         }
@@ -75,8 +77,8 @@ fn work_once<R: Wait, S: Stepper + Drainable<Drained>>(
 }
 
 /// Works a path until its stepper answers that it has ended or stopped, and answers which. It sends
-/// the moves of each step in order, and at the end the end; where a step answers Drain it drains
-/// the line and tells the stepper.
+/// the moves of each step in order, and at the end the end, that of the path before it; where a step
+/// answers Drain it drains the line for that wait and tells the stepper.
 pub fn run_path<R: Wait, S: Stepper + Drainable<Drained>>(
     rt: &R,
     path: Path,

@@ -1,4 +1,4 @@
--- The lemmas of plain_blocks. tape_plain takes OwnStays.
+-- The lemmas of plain_blocks. OwnStays is for proofs of other crates too.
 pub mod OwnStays
 mod Replacing
 mod WrittenCalm

@@ -1,9 +1,10 @@
 -- A tape whose blocks are all of this control's language stays. For `what_is_own_stays`
 -- (src/law.rt).
-use Rattle.std.proofs.Common.{◌≡◌, ℕ, ◌+◌, Bool, true, false, cond, List, [], ◌∷◌, ◌++◌, length, map, All, Ok, refl, ap, sym, subst, ◌∙◌, arith, append_assoc}
+use Rattle.std.proofs.Common.{◌≡◌, ℕ, ◌+◌, Bool, true, false, cond, List, [], ◌∷◌, ◌++◌, length, map, All, None, Ok, refl, ap, sym, subst, ◌∙◌, arith, append_assoc}
 use Rattle.std.specs.Prelude.{nat_lt}
 use Rattle.std.proofs.lemmas.List.{append-nil, length-append}
 use Rattle.std.proofs.lemmas.List.Elements.{All-head, All-tail}
+use Rattle.block_forms.specs.Forms.{block_or_refusal}
 use Rattle.block_words.specs.declared.dialect.Dialect.{Dialect}
 use Rattle.nc_text.specs.declared.tape.Block.{Block}
 use Rattle.nc_text.specs.declared.tape.Program.{Program}
@@ -38,6 +39,7 @@ walk_kept rules all stands known steps (block ∷ blocks) all_own =
     let behind : Known = known_past first.0 before in
     let here : one_at rules all stands (length steps) block known steps ≡ Ok (record { known = behind; steps = steps ++ step.Kept ∷ [] })
     = ap (λ b. cond b (Ok (record { known = known; steps = steps })) (step_at rules all stands (length steps) block before steps)) (not_below (length steps))
+    ∙ ap (λ b. step_by rules all stands (length steps) block before steps (cond b None (passed_by before (block_or_refusal rules.dialect block)))) (first.2 before.motion)
     ∙ ap (λ r. step_by rules all stands (length steps) block before steps (passed_by before r)) first.1 in
     let rest : walk_from rules all stands behind (steps ++ step.Kept ∷ []) (length steps + 1) blocks ≡ Ok ((steps ++ step.Kept ∷ []) ++ kept_blocks blocks)
     = subst (λ place. walk_from rules all stands behind (steps ++ step.Kept ∷ []) place blocks ≡ Ok ((steps ++ step.Kept ∷ []) ++ kept_blocks blocks))

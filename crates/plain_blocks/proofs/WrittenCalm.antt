@@ -21,7 +21,7 @@ use Rattle.plain_form.specs.declared.cause.PlainFault.{PlainFault}
 use Rattle.plain_blocks.specs.Asking.{ask, scene_of}
 use Rattle.plain_blocks.specs.Calm.{IsCalmBlock, IsCalm, IsCalmLine, AreCalm}
 use Rattle.plain_blocks.specs.Order.{order_block, order_tape}
-use Rattle.plain_blocks.specs.Passing.{and_then as pass_then, goes_on, passed_by, behind_block, pass_block, pass_blocks}
+use Rattle.plain_blocks.specs.Passing.{and_then as pass_then, goes_on, passed_by, behind_block, own_block, pass_block, pass_blocks}
 use Rattle.plain_blocks.specs.Targets.{stands_of}
 use Rattle.plain_blocks.specs.Walk.{Walked, and_then, line_cause, line_found, lines_at, line_by, at_line, pass_line, pass_lines, replaced_by, replaced_from, next_place, with_lines, with_answer, step_by, step_at, one_at, walk_then, walk_from, known_at, program_steps, steps_then, steps_from, steps_of}
 use Rattle.plain_blocks.specs.declared.passing.Passed.{Passed}
@@ -183,7 +183,7 @@ one_calm rules blocks stands place block known steps walked calm is = go (nat_lt
         subst (λ (w : Walked). All (IsCalm rules.dialect stands) w.steps) same calm
     go false is =
         step_calm rules blocks stands place block (known_at rules stands place known) steps
-        (behind_block rules.dialect (known_at rules stands place known) block) walked calm is
+        (own_block rules.dialect (known_at rules stands place known) block) walked calm is
 
 -- what becomes of the blocks of a program is calm
 walk_calm : (rules : Rules) (all : List Block) (stands : List Stand) (known : Known) (steps : List Step) (place : ℕ) (blocks : List Block) (out : List Step)

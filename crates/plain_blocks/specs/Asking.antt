@@ -9,7 +9,15 @@ use Rattle.plain_form.specs.declared.scene.Scene.{Scene}
 use Rattle.plain_form.specs.declared.scene.Unit.TheVariants.{Millimetre}
 use Rattle.plain_form.specs.declared.settings.FormSettings.{FormSettings}
 use Rattle.plain_form.specs.declared.answer.FormAnswer.{FormAnswer}
+use Rattle.plain_form.specs.declared.answer.FormAnswer.TheVariants.{NotMine, Refused, Written}
+use Rattle.corner_words.specs.Form.{corners_form}
+use Rattle.nose_words.specs.Form.{nose_form}
+use Rattle.peck_form.specs.Form.{peck_form}
+use Rattle.reference_form.specs.Form.{reference_form}
+use Rattle.rough_words.specs.Form.{rough_form}
 use Rattle.small_forms.specs.Codes.{codes_form}
+use Rattle.taper_form.specs.Form.{taper_form}
+use Rattle.thread_form.specs.Form.{thread_form}
 
 -- the number that a variable holds
 abbrev pub number_of : Var → Option ℤ
@@ -35,6 +43,37 @@ scene_of system known = record {
   tool = known.tool;
 }
 
+-- what a form answers, or another one, if it is not its own
+abbrev pub or_else : FormAnswer → FormAnswer → FormAnswer
+or_else NotMine other = other
+or_else (Refused fault) other = Refused fault
+or_else (Written lines) other = Written lines
+
+-- what the form of corners answers, or else that of codes
+abbrev pub ask_corners : List Block → ℕ → Scene → FormSettings → FormAnswer
+ask_corners blocks place scene settings = or_else (corners_form blocks place scene) (codes_form blocks place scene settings)
+
+-- what the form of compensation of the nose answers, or else those of corners and of codes
+abbrev pub ask_noses : List Block → ℕ → Scene → FormSettings → FormAnswer
+ask_noses blocks place scene settings = or_else (nose_form blocks place scene settings) (ask_corners blocks place scene settings)
+
+-- what the form of roughing answers, or else those of the nose, of corners and of codes
+abbrev pub ask_rough : List Block → ℕ → Scene → FormSettings → FormAnswer
+ask_rough blocks place scene settings = or_else (rough_form blocks place scene settings) (ask_noses blocks place scene settings)
+
+-- what the form of grooves and holes answers, or else those of roughing, of the nose, of corners and of codes
+abbrev pub ask_pecks : List Block → ℕ → Scene → FormSettings → FormAnswer
+ask_pecks blocks place scene settings = or_else (peck_form blocks place scene settings) (ask_rough blocks place scene settings)
+
+-- what the form of G30 answers, or else those of grooves and holes and the further ones
+abbrev pub ask_references : List Block → ℕ → Scene → FormSettings → FormAnswer
+ask_references blocks place scene settings =
+    or_else (reference_form blocks place scene settings) (ask_pecks blocks place scene settings)
+
+-- what the form of cuts along tapers answers, or else those of G30 and the further ones
+abbrev pub ask_tapers : List Block → ℕ → Scene → FormSettings → FormAnswer
+ask_tapers blocks place scene settings = or_else (taper_form blocks place scene) (ask_references blocks place scene settings)
+
 -- what the first of the forms answers that takes the block
 abbrev pub ask : List Block → ℕ → Scene → FormSettings → FormAnswer
-ask blocks place scene settings = codes_form blocks place scene settings
+ask blocks place scene settings = or_else (thread_form blocks place scene settings) (ask_tapers blocks place scene settings)

@@ -1,5 +1,6 @@
 -- Blocks of this control's language, and tapes that are written out in it. src/law.rt cites it.
-use Rattle.std.specs.Prelude.{◌≡◌, ℕ, List, [], ◌∷◌, map, All, Some, Ok, slice_get}
+use Rattle.std.specs.Prelude.{◌≡◌, false, ℕ, List, [], ◌∷◌, map, All, Option, Some, Ok, slice_get}
+use Rattle.code_tables.specs.declared.kind.CodeKind.{CodeKind}
 use Rattle.nc_text.specs.declared.tape.Block.{Block}
 use Rattle.nc_text.specs.declared.tape.Program.{Program}
 use Rattle.block_order.specs.declared.control.Control.TheVariants.{Next}
@@ -7,15 +8,18 @@ use Rattle.block_words.specs.declared.dialect.Dialect.{Dialect}
 use Rattle.block_forms.specs.Forms.{BlockForm, block_or_refusal}
 use Rattle.block_order.specs.declared.program.ControlProgram.{ControlProgram}
 use Rattle.plain_blocks.specs.Order.{order_block}
+use Rattle.plain_blocks.specs.Passing.{has_taper}
 use Rattle.plain_blocks.specs.Targets.{stands_of}
 use Rattle.plain_blocks.specs.declared.targets.Stand.{Stand}
 use Rattle.plain_blocks.specs.declared.step.Replaced.{Replaced}
 use Rattle.plain_blocks.specs.declared.step.Step.{Step}
 use Rattle.plain_blocks.specs.declared.step.Step.TheVariants.{Kept, Written}
 
--- the block is one of this control's language
+-- the block is one of this control's language, and begins no thread and no cut along a taper, whatever
+-- code of motion is in force
 abbrev pub IsOwn : Dialect → Block → Type 0
-IsOwn dialect block = (form : BlockForm) × (block_or_refusal dialect block ≡ Ok form)
+IsOwn dialect block =
+    (form : BlockForm) × (block_or_refusal dialect block ≡ Ok form) × ((motion : Option CodeKind) → has_taper dialect motion block.body ≡ false)
 
 -- all blocks of a tape are
 abbrev pub AreOwn : Dialect → List Program → Type 0

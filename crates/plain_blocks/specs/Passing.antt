@@ -1,5 +1,5 @@
 -- What is known behind blocks that this control's own language has. src/passing.rt computes it.
-use Rattle.std.specs.Prelude.{ℕ, Bool, true, false, List, [], ◌∷◌, Option, Some, None, Result, Ok, Err, if◌then◌else◌}
+use Rattle.std.specs.Prelude.{ℕ, Bool, true, false, ◌||◌, List, [], ◌∷◌, Option, Some, None, Result, Ok, Err, if◌then◌else◌}
 use Rattle.nc_text.specs.declared.tape.Block.{Block}
 use Rattle.block_order.specs.declared.control.Control.{Control}
 use Rattle.block_order.specs.declared.control.Control.TheVariants.{Next, Wait}
@@ -10,6 +10,10 @@ use Rattle.known_blocks.specs.declared.known.Known.{Known}
 use Rattle.known_blocks.specs.Behind.{known_behind_words, known_behind_sentence}
 use Rattle.plain_form.specs.declared.cause.PlainCause.{PlainCause}
 use Rattle.plain_form.specs.declared.cause.PlainCause.TheVariants as cause
+use Rattle.code_tables.specs.declared.kind.CodeKind.{CodeKind}
+use Rattle.line_text.specs.declared.body.Body.{Body}
+use Rattle.taper_form.specs.Kinds.{begins_cut}
+use Rattle.thread_form.specs.Taper.{begins_taper}
 use Rattle.plain_blocks.specs.declared.passing.Passed.{Passed}
 
 -- the control goes on to the next block
@@ -39,6 +43,14 @@ passed_by known (Err number) = None
 -- a block of this control's language
 abbrev pub behind_block : Dialect → Known → Block → Option Passed
 behind_block dialect known block = passed_by known (block_or_refusal dialect block)
+
+-- a block begins a thread or a cut along a taper, if this code of motion is in force
+abbrev pub has_taper : Dialect → Option CodeKind → Body → Bool
+has_taper dialect motion body = begins_taper dialect.system body || begins_cut dialect.system motion body
+
+-- a block of it that stays: one that begins a thread or a cut along a taper does not
+abbrev pub own_block : Dialect → Known → Block → Option Passed
+own_block dialect known block = if has_taper dialect known.motion block.body then None else behind_block dialect known block
 
 -- what is known behind a block that may be printed, or why it may not be
 abbrev pub pass_block : Option Passed → Result Known PlainCause

@@ -21,7 +21,7 @@ use Rattle.plain_blocks.specs.declared.walk.Rules.{Rules}
 use Rattle.plain_blocks.specs.declared.passing.Passed.{Passed}
 use Rattle.plain_blocks.specs.Asking.{ask, scene_of}
 use Rattle.plain_blocks.specs.Order.{order_block, order_tape}
-use Rattle.plain_blocks.specs.Passing.{goes_on, behind_block, pass_blocks}
+use Rattle.plain_blocks.specs.Passing.{goes_on, own_block, pass_blocks}
 use Rattle.plain_blocks.specs.Targets.{stands_of}
 
 -- a path may come behind this block otherwise than from it, or there is none
@@ -151,7 +151,7 @@ step_by rules blocks stands place block known steps None =
 
 abbrev pub step_at : Rules → List Block → List Stand → ℕ → Block → Known → List Step → Result Walked PlainFault
 step_at rules blocks stands place block known steps =
-    step_by rules blocks stands place block known steps (behind_block rules.dialect known block)
+    step_by rules blocks stands place block known steps (own_block rules.dialect known block)
 
 -- what a block makes of the walk, unless a form took it already
 abbrev pub one_at : Rules → List Block → List Stand → ℕ → Block → Known → List Step → Result Walked PlainFault

@@ -7,9 +7,11 @@ ghost use Rattle.plain_blocks.specs.Calm.{AreOwn, AreCalm, kept_steps};
 ghost use Rattle.plain_blocks.specs.Order.{order_tape};
 ghost use Rattle.plain_blocks.specs.Walk.{steps_of};
 
-/// Every line of a tape stays whose blocks are all of this control's language.
+/// Every line of a tape stays whose blocks are all of this control's language, without a thread and
+/// a cut along a taper, which it reads and does not run.
 pub fn what_is_own_stays()
-    ensures { (rules : Rules) (tape : List Program) → AreOwn rules.dialect tape → steps_of rules tape ≡ Ok (kept_steps tape) }
+    ensures { (rules : Rules) (tape : List Program) → AreOwn rules.dialect tape
+        → steps_of rules tape ≡ Ok (kept_steps tape) }
 {}
 
 /// Only lines give way whose block goes on to the next one, and what is written in their place, by

@@ -2,7 +2,7 @@
 ghost use Rattle.std.specs.Prelude.{◌≡◌, IfOk};
 ghost use Rattle.nc_number.specs.Answers.{Gives};
 ghost use Rattle.block_forms.specs.Blocks.{block_form};
-ghost use Rattle.plain_blocks.specs.Passing.{goes_on, known_past, behind_block, pass_block, pass_blocks};
+ghost use Rattle.plain_blocks.specs.Passing.{goes_on, known_past, behind_block, has_taper, own_block, pass_block, pass_blocks};
 
 use block_forms::{Dialect, FlowBlock, read_block};
 use block_order::Control;
@@ -11,6 +11,8 @@ use nc_number::{Failing, NoMemory};
 use nc_text::Block;
 use plain_form::PlainCause;
 use std::alloc::Global;
+use taper_form::begins_cut;
+use thread_form::begins_taper;
 
 /// A block of this control's language: what it does to the order, and what is known behind it.
 #[derive(Clone, Copy, Debug, PartialEq, Eq)]
@@ -52,6 +54,29 @@ pub(crate) fn behind_block(
         Err(Failing::Fault(_)) => Ok(None),
         Err(Failing::NoMemory) => Err(NoMemory),
     }
+}
+
+/// Whether a block begins a thread or a cut along a taper, which the control reads and does not run.
+fn has_taper(dialect: &Dialect, known: &Known, block: &Block) -> bool
+    ensures { result ≡ has_taper dialect.now known.now.motion block.now.body }
+{
+    begins_taper(block, dialect.system) || begins_cut(block, dialect.system, &known.motion)
+}
+
+/// A block of this control's language that stays: none if it is not one of it, or if it begins a
+/// thread or a cut along a taper.
+pub(crate) fn own_block(
+    alloc: Global,
+    dialect: &Dialect,
+    known: &Known,
+    block: &Block,
+) -> Result<Option<Passed>, NoMemory>
+    ensures { IfOk result (λ passing. passing ≡ own_block dialect.now known.now block.now) }
+{
+    if has_taper(dialect, known, block) {
+        return Ok(None);
+    }
+    behind_block(alloc, dialect, known, block)
 }
 
 /// What is known behind one printed block; why it may not be printed.

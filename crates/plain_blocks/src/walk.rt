@@ -8,7 +8,7 @@ ghost use Rattle.plain_blocks.specs.Walk.{is_left_by, is_entered_by, is_entry_at
 
 use crate::asking::{ask, scene_of};
 use crate::order::{order_blocks, order_tape};
-use crate::passing::{behind_block, goes_on, pass_blocks};
+use crate::passing::{goes_on, own_block, pass_blocks};
 use crate::step::{Replaced, Step, StepList};
 use crate::targets::{Stand, stands_of};
 use block_forms::Dialect;
@@ -267,7 +267,8 @@ fn with_answer(
 }
 
 /// What is known behind the block in this place, and what becomes of it, put to the steps: a block
-/// of this control's language stays; else the forms are asked.
+/// of this control's language stays, unless it begins a thread with a taper; else the forms are
+/// asked.
 fn step_at(
     alloc: Global,
     rules: &Rules,
@@ -281,7 +282,7 @@ fn step_at(
     ensures { Gives (λ known. record { known = known; steps = steps.new.items }) result
         (step_at rules.now blocks.now stands.now place block.now known.now steps.old.items) }
 {
-    if let Some(passing) = behind_block(alloc, &rules.dialect, known, block)? {
+    if let Some(passing) = own_block(alloc, &rules.dialect, known, block)? {
         steps.push(Step::Kept)?;
         return Ok(passing.known);
     }

@@ -26,11 +26,13 @@ use Rattle.two_path.specs.Turns.{blocks_of}
 use Rattle.part_order.specs.Parts.{IsInPart, IsReached, starts, steps, passes}
 use Rattle.part_order.proofs.Standing.{reached_stands, stands_in_parts}
 use Rattle.named_vars.specs.Names.{sentence_may_write, some_names, body_names, body_may_write, found_names, found_may_write}
-use Rattle.race_order.specs.Races.{PartNames, PartMayWrite}
-use Rattle.race_order.specs.Agreement.{IsBeginning, RaceFreeRunsAgree}
-use Rattle.race_order.proofs.Machines.{Known}
+use Rattle.race_order.specs.Races.{PartNames, PartMayWrite, HasNoRace}
+use Rattle.race_order.specs.Agreement.{IsBeginning, RaceFreeRunsAgree, RaceFreeRunsGoAlike}
+use Rattle.race_order.proofs.Machines.{Known, path_of}
+use Rattle.race_order.proofs.Together.{IsFree}
 use Rattle.named_vars.proofs.NeedsNamed.{needs_are_named}
 use Rattle.named_vars.proofs.WritesMarked.{writes_are_marked}
+use Rattle.race_order.proofs.GoAlike.{runs_go_alike}
 use Rattle.race_order.proofs.Runs.{runs_agree}
 
 -- what a block may write, it names
@@ -115,14 +117,27 @@ begins flow shared path b = record {
   shares = b.shares;
 }
 
+-- a pair without a race writes nothing in a part that the other path names in it
+no_race : (left right : Flow) (ul : IsUnforked left.order) (ur : IsUnforked right.order) (shared : ℕ → Bool) → HasNoRace shared left right
+    → IsFree (path_of (blocks_of left) (known_of left ul shared)) (path_of (blocks_of right) (known_of right ur shared))
+no_race left right ul ur shared free = record {
+  first = λ n v may named. free.first n v (record { is_shared = may.0; writes = may.1; names = named.1 });
+  second = λ n v may named. free.second n v (record { is_shared = may.0; writes = may.1; names = named.1 });
+}
+
 -- if no part has a race and each flow comes to one list of labels, all runs of both that finish
 -- agree
 pub race_free_agree : (left right : Flow) → IsUnforked left.order → IsUnforked right.order → RaceFreeRunsAgree left right
 race_free_agree left right ul ur shared free first second here there turns others done also =
     runs_agree (blocks_of left) (blocks_of right) (known_of left ul shared) (known_of right ur shared)
-    (record {
-      first = λ n v may named. free.first n v (record { is_shared = may.0; writes = may.1; names = named.1 });
-      second = λ n v may named. free.second n v (record { is_shared = may.0; writes = may.1; names = named.1 });
-    }) first second
+    (no_race left right ul ur shared free) first second
     (begins left shared first here) (begins right shared second there)
     turns others done also
+
+-- if no part has a race and each flow comes to one list of labels, all runs of both go alike
+pub race_free_go_alike : (left right : Flow) → IsUnforked left.order → IsUnforked right.order → RaceFreeRunsGoAlike left right
+race_free_go_alike left right ul ur shared free first second here there turns others =
+    runs_go_alike (blocks_of left) (blocks_of right) (known_of left ul shared) (known_of right ur shared)
+    (no_race left right ul ur shared free) first second
+    (begins left shared first here) (begins right shared second there)
+    turns others

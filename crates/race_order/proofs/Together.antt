@@ -44,26 +44,26 @@ pub record IsFree {V : Type 0} (p q : PathOf V) : Type 0 where
 
 -- A path within part n: from `x`, where it began the part, k turns alone lead to its state, and to
 -- the same values of the variables that the part names.
-record Side {V : Type 0} (p : PathOf V) (n : ℕ) (x : Solo p.S V) (h : Half p.S V) (env : ℕ → V) : Type 0 where
+pub record Side {V : Type 0} (p : PathOf V) (n : ℕ) (x : Solo p.S V) (h : Half p.S V) (env : ℕ → V) : Type 0 where
   -- how many turns alone the path has made in this part
-  k : ℕ
+  pub k : ℕ
   -- the path's own half of the machine is that behind these turns
-  half : h ≡ (alone p k x).half
+  pub half : h ≡ (alone p k x).half
   -- the variables that the part names hold what they hold behind these turns
-  agree : Agree p n env (alone p k x).env
+  pub agree : Agree p n env (alone p k x).env
   -- the path stands in part n, or waits at its end, or has finished
-  stands : Stands p n h.mode h.state
+  pub stands : Stands p n h.mode h.state
 
 -- both paths stand in part n, each as if it had run alone since the part began (`m0`); a variable
 -- that neither may write in this part is as it was then
-record IsWithin {V : Type 0} (p q : PathOf V) (n : ℕ) (m0 m : Pair V p q) : Type 0 where
-  first : Side p n (solo_at m0.first m0.env) m.first m.env
-  second : Side q n (solo_at m0.second m0.env) m.second m.env
+pub record IsWithin {V : Type 0} (p q : PathOf V) (n : ℕ) (m0 m : Pair V p q) : Type 0 where
+  pub first : Side p n (solo_at m0.first m0.env) m.first m.env
+  pub second : Side q n (solo_at m0.second m0.env) m.second m.env
   -- what neither path may write in this part is as it was
-  rest : (v : ℕ) → (p.may n v → ⊥) → (q.may n v → ⊥) → m.env v ≡ m0.env v
+  pub rest : (v : ℕ) → (p.may n v → ⊥) → (q.may n v → ⊥) → m.env v ≡ m0.env v
 
 -- the pair as part n begins
-data Begins {V : Type 0} (p q : PathOf V) (start : Pair V p q) : ℕ → Pair V p q → Type 0 where
+pub data Begins {V : Type 0} (p q : PathOf V) (start : Pair V p q) : ℕ → Pair V p q → Type 0 where
   -- part 0 begins with the run
   at_start : Begins p q start 0 start
   -- the next part begins as both paths pass the waits at which this part ended
@@ -119,13 +119,13 @@ begun_side : {V : Type 0} → (p : PathOf V) (n : ℕ) (h : Half p.S V) (env : �
 begun_side p n h env stands = record { k = 0; half = refl; agree = λ v _. refl; stands = stands }
 
 -- where a run is: within a part that began
-record IsSomewhere {V : Type 0} (p q : PathOf V) (start m : Pair V p q) : Type 0 where
+pub record IsSomewhere {V : Type 0} (p q : PathOf V) (start m : Pair V p q) : Type 0 where
   -- the number of the part
-  n : ℕ
+  pub n : ℕ
   -- the pair as the part began
-  m0 : Pair V p q
-  begins : Begins p q start n m0
-  within : IsWithin p q n m0 m
+  pub m0 : Pair V p q
+  pub begins : Begins p q start n m0
+  pub within : IsWithin p q n m0 m
 
 -- behind a turn or a meeting the pair stands within some part
 goes_somewhere : {V : Type 0} → (p q : PathOf V) → IsFree p q → (start m to : Pair V p q) → IsSomewhere p q start m → Goes p q m to
@@ -149,7 +149,7 @@ goes_somewhere p q free start m _ at (meet here there) =
     }
 
 -- behind each run the pair stands within some part
-run_somewhere : {V : Type 0} → (p q : PathOf V) → IsFree p q → (start m : Pair V p q) → Stands p 0 start.first.mode start.first.state
+pub run_somewhere : {V : Type 0} → (p q : PathOf V) → IsFree p q → (start m : Pair V p q) → Stands p 0 start.first.mode start.first.state
     → Stands q 0 start.second.mode start.second.state → IsRun p q start m → IsSomewhere p q start m
 run_somewhere p q free start _ here there begun = record {
   n = 0;
@@ -200,7 +200,7 @@ both_wait : {V : Type 0} → (p q : PathOf V) (m : Pair V p q) → m.first.mode 
 both_wait p q m here there = record { first = subst IsIdle (sym here) waits; second = subst IsIdle (sym there) waits }
 
 -- there is one pair at which part n begins
-one_beginning : {V : Type 0} → IsStable V → (p q : PathOf V) (start : Pair V p q) (n : ℕ) (m to : Pair V p q) → Begins p q start n m → Begins p q start n to → m ≡ to
+pub one_beginning : {V : Type 0} → IsStable V → (p q : PathOf V) (start : Pair V p q) (n : ℕ) (m to : Pair V p q) → Begins p q start n m → Begins p q start n to → m ≡ to
 one_beginning stable p q start zero _ _ at_start at_start = refl
 one_beginning stable p q start (suc n) _ _ (behind _ m0 m before w here there) (behind _ n0 n' since u here' there') =
     let from = one_beginning stable p q start n m0 n0 before since in
@@ -216,15 +216,15 @@ finished_idle : {V : Type 0} → (p q : PathOf V) (m : Pair V p q) → AreFinish
 finished_idle p q m f = record { first = subst IsIdle (sym f.0) finished; second = subst IsIdle (sym f.1) finished }
 
 -- part n ended with both paths at waits
-record IsPassed {V : Type 0} (p q : PathOf V) (start : Pair V p q) (n : ℕ) : Type 0 where
+pub record IsPassed {V : Type 0} (p q : PathOf V) (start : Pair V p q) (n : ℕ) : Type 0 where
   -- the pair as the part began
-  m0 : Pair V p q
+  pub m0 : Pair V p q
   -- the pair as the part ended
-  m : Pair V p q
-  begins : Begins p q start n m0
-  within : IsWithin p q n m0 m
-  here : m.first.mode ≡ Waiting
-  there : m.second.mode ≡ Waiting
+  pub m : Pair V p q
+  pub begins : Begins p q start n m0
+  pub within : IsWithin p q n m0 m
+  pub here : m.first.mode ≡ Waiting
+  pub there : m.second.mode ≡ Waiting
 
 -- each part before one that begins ended with both paths at waits
 passed_before : {V : Type 0} → (p q : PathOf V) (start : Pair V p q) (n k : ℕ) (to : Pair V p q) → Begins p q start k to → n < k → IsPassed p q start n
@@ -248,7 +248,7 @@ not_both stable p q start n m0 m b w f past =
     absurd cc
 
 -- two numbers are equal, or one is less
-less_same_more : (n k : ℕ) → (n < k) ⊎ ((n ≡ k) ⊎ (k < n))
+pub less_same_more : (n k : ℕ) → (n < k) ⊎ ((n ≡ k) ⊎ (k < n))
 less_same_more n k = grind arith
 
 -- two runs that finish, each within some part, come to one pair

@@ -1,6 +1,6 @@
 -- When two runs of a machine come to the same, whichever path had which turn: what the law of
 -- src/laws.rt says of pairs without a race.
-use Rattle.std.specs.Prelude.{◌≡◌, ℕ, Bool, true, List, [], ◌∷◌, ◌++◌}
+use Rattle.std.specs.Prelude.{◌≡◌, ◌⊎◌, ℕ, Bool, true, List, [], ◌∷◌, ◌++◌}
 use Rattle.nc_number.specs.declared.path.Path.{Path}
 use Rattle.nc_number.specs.declared.path.Path.TheVariants.{One, Two}
 use Rattle.nc_number.specs.Both.{both_of}
@@ -15,35 +15,74 @@ use Rattle.path_state.specs.Statements.{Write as Written}
 use Rattle.two_path.specs.declared.turn.Turn.{Turn}
 use Rattle.two_path.specs.declared.turn.Turn.TheVariants as turn
 use Rattle.two_path.specs.Machine.{Part, MachineView, opening}
-use Rattle.two_path.specs.Turns.{Tapes, tapes_of, turn_of}
+use Rattle.two_path.specs.Turns.{Tapes, TurnResult, tapes_of, turn_of}
 use Rattle.two_path.specs.Histories.{run, turns_of}
 use Rattle.race_order.specs.Races.{HasNoRace}
 
--- the moves that a turn answers
-abbrev pub moves_in : Turn → List Moves
-moves_in (turn.Did moves) = moves ∷ []
-moves_in (turn.Ended moves) = moves ∷ []
-moves_in (turn.Read variable stamp) = []
-moves_in (turn.Arrived code) = []
-moves_in (turn.Met code) = []
-moves_in (turn.Waiting code) = []
-moves_in turn.Finished = []
-moves_in (turn.Alarm alarm) = []
-moves_in (turn.Halted alarm) = []
-moves_in turn.Edited = []
+-- a thing that a path does in a run, as turrets and zones see it
+pub data Deed : Type 0 where
+  -- it makes the moves of a block
+  Makes : (moves : Moves) → Deed
+  -- it passes a wait of this code, as the other path does, and goes on from here
+  Meets : (code : ℕ) → (from : PathView) → Deed
 
--- the moves that a turn adds to those of the path `who`: none if it was the other path's
-abbrev pub turn_moves : Path → Path → Turn → List Moves
-turn_moves One One turn = moves_in turn
-turn_moves Two Two turn = moves_in turn
-turn_moves One Two turn = []
-turn_moves Two One turn = []
+-- what the path does whose turn it is, and which goes on from here
+abbrev pub own_deeds : Turn → PathView → List Deed
+own_deeds (turn.Did moves) from = Makes moves ∷ []
+own_deeds (turn.Ended moves) from = Makes moves ∷ []
+own_deeds (turn.Read variable stamp) from = []
+own_deeds (turn.Arrived code) from = []
+own_deeds (turn.Met code) from = Meets code from ∷ []
+own_deeds (turn.Waiting code) from = []
+own_deeds turn.Finished from = []
+own_deeds (turn.Alarm alarm) from = []
+own_deeds (turn.Halted alarm) from = []
+own_deeds turn.Edited from = []
+
+-- what a path does in a turn of the other, from which it goes on here: it passes its wait if they
+-- meet
+abbrev pub other_deeds : Turn → PathView → List Deed
+other_deeds (turn.Met code) from = Meets code from ∷ []
+other_deeds (turn.Did moves) from = []
+other_deeds (turn.Ended moves) from = []
+other_deeds (turn.Read variable stamp) from = []
+other_deeds (turn.Arrived code) from = []
+other_deeds (turn.Waiting code) from = []
+other_deeds turn.Finished from = []
+other_deeds (turn.Alarm alarm) from = []
+other_deeds (turn.Halted alarm) from = []
+other_deeds turn.Edited from = []
+
+-- what a turn of a path adds to what the path `who` does
+abbrev pub turn_deeds : Path → Path → TurnResult → List Deed
+turn_deeds One One r = own_deeds r.turn r.machine.paths.one.path
+turn_deeds Two Two r = own_deeds r.turn r.machine.paths.two.path
+turn_deeds One Two r = other_deeds r.turn r.machine.paths.one.path
+turn_deeds Two One r = other_deeds r.turn r.machine.paths.two.path
+
+-- what a path does in a run of these turns: its moves, and each meeting where it lies among them
+abbrev pub deeds_by : Tapes → Path → MachineView → List Path → List Deed
+deeds_by tapes who m [] = []
+deeds_by tapes who m (path ∷ turns) =
+    turn_deeds who path (turn_of tapes path m) ++ deeds_by tapes who (turn_of tapes path m).machine turns
+
+-- the moves among what a path does
+abbrev pub moves_among : List Deed → List Moves
+moves_among [] = []
+moves_among (Makes moves ∷ deeds) = moves ∷ moves_among deeds
+moves_among (Meets code from ∷ deeds) = moves_among deeds
 
 -- the moves of a path in a run of these turns
 abbrev pub moves_by : Tapes → Path → MachineView → List Path → List Moves
-moves_by tapes who m [] = []
-moves_by tapes who m (path ∷ turns) =
-    turn_moves who path (turn_of tapes path m).turn ++ moves_by tapes who (turn_of tapes path m).machine turns
+moves_by tapes who m turns = moves_among (deeds_by tapes who m turns)
+
+-- the list begins with these
+abbrev pub BeginsWith : {A : Type 0} → List A → List A → Type 0
+BeginsWith {A} front whole = (rest : List A) × (whole ≡ front ++ rest)
+
+-- one of the two lists begins with the other
+abbrev pub AreAlike : {A : Type 0} → List A → List A → Type 0
+AreAlike one other = BeginsWith one other ⊎ BeginsWith other one
 
 -- both paths have ended
 pub record AreDone (m : MachineView) : Type 0 where
@@ -74,6 +113,8 @@ pub data AreMixed : List Written → List Written → List Write → Type 0 wher
 pub record Agree (tapes : Tapes) (start : MachineView) (turns others : List Path) : Type 0 where
   -- they lead to one machine, but for the order of its records and their numbers
   pub machine : but_for_order (run tapes start (turns_of turns)) ≡ but_for_order (run tapes start (turns_of others))
+  -- each path did the same, its moves and its meetings in order
+  pub deeds : (who : Path) → deeds_by tapes who start turns ≡ deeds_by tapes who start others
   -- each path made the same moves
   pub first_moves : moves_by tapes One start turns ≡ moves_by tapes One start others
   pub second_moves : moves_by tapes Two start turns ≡ moves_by tapes Two start others
@@ -101,3 +142,17 @@ RaceFreeRunsAgree left right =
     → AreDone (run (tapes_of left right) (opening first second) (turns_of turns))
     → AreDone (run (tapes_of left right) (opening first second) (turns_of others))
     → Agree (tapes_of left right) (opening first second) turns others
+
+-- In the runs of two lists of turns each path does the same, as far as the shorter goes: what it does
+-- in one run is how it begins in the other.
+abbrev pub GoAlike : Tapes → MachineView → List Path → List Path → Type 0
+GoAlike tapes start turns others = (who : Path) → AreAlike (deeds_by tapes who start turns) (deeds_by tapes who start others)
+
+-- If there is no race, all runs of turns go alike, those too that stop early, end by an alarm, or
+-- could go on for ever: between one meeting and the next each path makes the same moves in each run
+-- that comes to the next, and a front of them in each that does not.
+abbrev pub RaceFreeRunsGoAlike : Flow → Flow → Type 0
+RaceFreeRunsGoAlike left right =
+    (shared : ℕ → Bool) → HasNoRace shared left right
+    → (first second : PathView) → IsBeginning left shared first → IsBeginning right shared second
+    → (turns others : List Path) → GoAlike (tapes_of left right) (opening first second) turns others

@@ -43,9 +43,9 @@ fn put_races<K: Sink>(sink: &mut K, races: &[Race]) -> Result<(), PutFault>
     Ok(())
 }
 
-/// The line of how many races there are.
+/// The line of how many races there are: `races N`.
 #[tactic(auto, unfolding(crate::specs::Texts::head_text))]
-fn head_line(count: u64) -> Piece
+pub fn head_line(count: u64) -> Piece
     ensures { result ≡ head_text count }
 {
     let mut piece = Piece::empty();

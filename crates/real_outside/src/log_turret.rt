@@ -1,7 +1,7 @@
 //! A turret that does nothing. The turret of the program is in turret_lines, over line_file.rt.
 //! Only tests use it.
 use nc_number::Point;
-use nc_outside::{Failed, LinedMove, Turret};
+use nc_outside::{Failed, LinedMove, Rest, Turret};
 
 /// A turret that takes every move and does nothing with it; what a run moves is told by its report.
 /// It never fails, and tells nothing of what it got.
@@ -29,7 +29,7 @@ impl Turret for LogTurret {
     }
 
     /// Always stands still.
-    fn settle(&mut self) -> Result<(), Failed> {
+    fn settle(&mut self, _at: Rest) -> Result<(), Failed> {
         Ok(())
     }
 }

@@ -6,6 +6,7 @@ ghost use Rattle.run_records.specs.Headers.{IsShort};
 use crate::run::{begun_on, disk_left};
 use crate::step_text::put_answer;
 use crate::texts::header_of;
+use crate::turns::step_drained;
 use disk_model::{Disk, MemoryDisk};
 use nc_number::Path;
 use run_records::{Header, Version};
@@ -68,11 +69,9 @@ fn put_steps<D: Disk>(
     times: u32,
 ) -> Result<(), AllocError> {
     for _time in 1..times {
-        table.drained(path);
-        let _answer = table.step(path);
+        let _answer = step_drained(table, path);
     }
-    table.drained(path);
-    put_answer(out, &table.step(path))
+    put_answer(out, &step_drained(table, path))
 }
 
 /// Makes the steps of a word: a path's number, after the number of its steps and an `x` if there

@@ -36,7 +36,8 @@ fn put_halt(out: &mut String, halt: &Halt) -> Result<(), AllocError> {
 pub(crate) fn put_answer(out: &mut String, answer: &TableStep) -> Result<(), AllocError> {
     match answer {
         TableStep::Turned(turn) => put_turn(out, turn),
-        TableStep::Drain => out.push_str("drains"),
+        TableStep::Drain(_) => out.push_str("drains"),
+        TableStep::Undrained => out.push_str("is not drained"),
         TableStep::DiskFault => out.push_str("disk fault"),
         TableStep::Halted(halt) => put_halt(out, halt),
     }

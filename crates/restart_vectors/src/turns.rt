@@ -34,7 +34,8 @@ enum Said {
 /// What this answer of a table was.
 fn said_of(answer: &TableStep) -> Said {
     match answer {
-        TableStep::Drain | TableStep::DiskFault | TableStep::Halted(_) => Said::Stopped,
+        TableStep::Drain(_) | TableStep::Undrained => Said::Stopped,
+        TableStep::DiskFault | TableStep::Halted(_) => Said::Stopped,
         TableStep::Turned(turn) => said_of_turn(turn),
     }
 }
@@ -90,10 +91,19 @@ impl Count {
     }
 }
 
-/// Makes a step of a path that is told to be drained first: there is no turret.
+/// Makes a step of a path. If it is to be drained first it is told so: there is no turret.
+pub(crate) fn step_drained<D: Disk>(table: &mut Table<D>, path: Path) -> TableStep {
+    let answer = table.step(path);
+    if let TableStep::Drain(_) = &answer {
+        table.drained(path);
+        return table.step(path);
+    }
+    answer
+}
+
+/// What a step of a path came to.
 fn step_of<D: Disk>(table: &mut Table<D>, path: Path) -> Said {
-    table.drained(path);
-    said_of(&table.step(path))
+    said_of(&step_drained(table, path))
 }
 
 /// Makes one step of the table. It answers whether the run goes on.

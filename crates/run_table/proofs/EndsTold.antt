@@ -1,7 +1,8 @@
 -- The end that is told of a held table is its end, and that of the table that is taken out of it.
 -- For the proofs of `a_taken_table_ended_so` (src/laws.rt), `Held::end` (src/held.rt) and
 -- `Table::ended` (src/table.rt).
-use Rattle.std.proofs.Common.{◌≡◌, ◌≢◌, ⊎_elim, ℕ, ◌==◌, ◌&&◌, Bool, true, false, [], length, refl, sym, ◌∙◌, ap, subst, arith, append-nil, Option, Some, None, ◌≤◌, ◌<◌, List}
+use Rattle.run_table.specs.declared.resting.Resting.{Resting}
+use Rattle.std.proofs.Common.{◌≡◌, ◌++◌, ◌≢◌, ⊎_elim, ℕ, ◌==◌, ◌&&◌, Bool, true, false, [], length, refl, sym, ◌∙◌, ap, subst, arith, append-nil, Option, Some, None, ◌≤◌, ◌<◌, List}
 use Rattle.std.specs.Prelude.{IsTrue, nat_lt, IfSome, IfNone, if◌then◌else◌}
 use Rattle.disk_model.specs.Device.{DiskState}
 use Rattle.gate_file.specs.Gate.{Gate}
@@ -13,7 +14,9 @@ use Rattle.nc_outside.specs.declared.reason.Reason.{Reason}
 use Rattle.nc_outside.specs.declared.reason.Reason.TheVariants as cause
 use Rattle.nc_outside.specs.Reasons.{end_by, end_or_bound}
 use Rattle.nc_verify.specs.declared.verified.Verified.{Verified}
-use Rattle.seat_table.specs.Turning.{moves_in}
+use Rattle.run_table.specs.Made.{joined}
+use Rattle.run_table.specs.Draining.{rest_told}
+use Rattle.nc_number.specs.Both.{of_path}
 use Rattle.two_path.specs.Machine.{MachineView}
 use Rattle.two_path.specs.Ending.{end_of}
 use Rattle.two_path.specs.Joined.{RoomyMachine}
@@ -25,7 +28,7 @@ use Rattle.run_table.specs.Recording.{RecordingView, Records}
 use Rattle.run_table.specs.Kept.{TableView, tapes_in, opening_of, HasReason, IsTable}
 use Rattle.run_table.specs.Since.{Since}
 use Rattle.run_table.specs.Running.{IsNoneOrAlarm, IsEnd, EndsBy}
-use Rattle.run_table.specs.Holding.{HeldView, held_of, IsOf, ShowsFlushed, IsHeld, IsTaken, without_turret, records_since}
+use Rattle.run_table.specs.Holding.{HeldView, held_of, IsOf, ShowsFlushed, IsHeld, IsTaken, without_turret, records_since, told_since}
 use Rattle.run_table.specs.Ending.{end_ahead, Asks, IsAtEnd, HasEnded, HasNotEnded, KeepsRest}
 use Rattle.run_table.specs.Ending.Asks.{kept, idle, written, failed}
 use Rattle.run_table.proofs.FlushedShown.{shows_all, shows_still, shown_unless}
@@ -76,9 +79,9 @@ some_pend old new within settled live dead = go (nat_lt old.flushed (length old.
         absurd (let clash : IsTrue false = subst IsTrue dead still in cc)
 
 -- a table stays one over a flush, whether all is flushed or the disk failed
-pub flushed_table : {D : Type 0} (state : D → DiskState) (v : Verified) (m : RoomyMachine) (r r' : RecordingView D) (why why' : Option Halt) (budget : ℕ) (owed : Both Bool)
-    → IsTable state (table_of v m r why budget owed) → Records state [] r r' → HasReason m.machine r' why' → IsTable state (table_of v m r' why' budget owed)
-flushed_table state v m r r' why why' budget owed table records reason =
+pub flushed_table : {D : Type 0} (state : D → DiskState) (v : Verified) (m : RoomyMachine) (r r' : RecordingView D) (why why' : Option Halt) (budget : ℕ) (resting : Both Resting)
+    → IsTable state (table_of v m r why budget resting) → Records state [] r r' → HasReason m.machine r' why' → (why' ≢ Some halt.Disk → why ≢ Some halt.Disk) → IsTable state (table_of v m r' why' budget resting)
+flushed_table state v m r r' why why' budget resting table records reason free =
     let history : r'.history ≡ r.history = records.follows.history ∙ append-nil r.history in
     record {
       kept = subst (λ (l : List Entry). IsKept (tapes_in v) (opening_of v) l m.machine) (sym history) table.kept;
@@ -87,6 +90,7 @@ flushed_table state v m r r' why why' budget owed table records reason =
       turns = table.turns;
       room = λ some. omega (arith, ap length history, records.room, table.room some);
       reason = reason;
+      rests = λ calm. table.rests (free calm);
       journaled = (table.journaled.0, table.journaled.1, (records.follows.journal table.journaled.0 table.journaled.2).journaled);
     }
 
@@ -205,7 +209,7 @@ module _ {D : Type 0} (state : D → DiskState) (old new : TableView D) (result 
           let machine : new.machine ≡ old.machine = ap (λ (t : TableView D). t.machine) rest in
           let halts : new.halt ≡ old.halt = ap (λ (t : TableView D). t.halt) rest in
           let budget = ap (λ (t : TableView D). t.budget) rest in
-          let owed = ap (λ (t : TableView D). t.owed) rest in
+          let resting = ap (λ (t : TableView D). t.resting) rest in
           record {
             rest = λ i. record {
               verified = verified i;
@@ -215,7 +219,7 @@ module _ {D : Type 0} (state : D → DiskState) (old new : TableView D) (result 
               file = new.recording.log.file;
               halt = new.halt;
               budget = budget i;
-              owed = owed i;
+              resting = resting i;
               shown = shown;
             };
             halt = λ fine. halts;
@@ -232,7 +236,7 @@ module _ {D : Type 0} (state : D → DiskState) (old new : TableView D) (result 
                   file = file i;
                   halt = halts i;
                   budget = budget i;
-                  owed = owed i;
+                  resting = resting i;
                   shown = shown;
                 };
           }
@@ -240,7 +244,7 @@ module _ {D : Type 0} (state : D → DiskState) (old new : TableView D) (result 
           let verified : new.verified ≡ old.verified = ap (λ (t : TableView D). t.verified) rest in
           let machine : new.machine ≡ old.machine = ap (λ (t : TableView D). t.machine) rest in
           let budget = ap (λ (t : TableView D). t.budget) rest in
-          let owed = ap (λ (t : TableView D). t.owed) rest in
+          let resting = ap (λ (t : TableView D). t.resting) rest in
           record {
             rest = λ i. record {
               verified = verified i;
@@ -250,7 +254,7 @@ module _ {D : Type 0} (state : D → DiskState) (old new : TableView D) (result 
               file = new.recording.log.file;
               halt = new.halt;
               budget = budget i;
-              owed = owed i;
+              resting = resting i;
               shown = shown;
             };
             halt = λ fine. absurd (fine same);
@@ -269,11 +273,25 @@ module _ {D : Type 0} (state : D → DiskState) (old new : TableView D) (result 
       go (written free end is same rest history live all settled) = history
       go (failed free pends same rest history dead still) = history
 
-  -- the moves that were answered stay the same
-  pub records_kept : (opened : Option (TableView D)) (shown : Bool) (p : Path) → records_since opened (held_of new shown) p ≡ records_since opened (held_of old shown) p
+  -- what the records told stays the same
+  records_kept : (opened : Option (TableView D)) (shown : Bool) (p : Path) → records_since opened (held_of new shown) p ≡ records_since opened (held_of old shown) p
   records_kept None shown p = refl
   records_kept (Some start) shown p =
       ap (λ (l : _). records_since (Some start) (record (held_of old shown) { history = l }) p) history_kept
+
+  -- which turrets rest for a wait stays the same
+  resting_kept : new.resting ≡ old.resting
+  resting_kept = go asks
+    where
+      go : Asks old new result → new.resting ≡ old.resting
+      go (kept is same stays) = ap (λ (t : TableView D). t.resting) stays
+      go (idle free none same stays) = ap (λ (t : TableView D). t.resting) stays
+      go (written free end is same rest history live all settled) = ap (λ (t : TableView D). t.resting) rest
+      go (failed free pends same rest history dead still) = ap (λ (t : TableView D). t.resting) rest
+
+  -- what was told the turrets stays the same
+  pub told_kept : (opened : Option (TableView D)) (shown : Bool) (p : Path) → told_since opened (held_of new shown) p ≡ told_since opened (held_of old shown) p
+  told_kept opened shown p = λ i. joined (records_kept opened shown p i) ++ rest_told (of_path (resting_kept i) p)
 
   -- the call on a held table
   module _ (opened : Option (TableView D)) (shown : Bool) (since : Since state old new) (held : IsHeld state opened old shown) where
@@ -290,7 +308,7 @@ module _ {D : Type 0} (state : D → DiskState) (old new : TableView D) (result 
             (shows_all state start new (since_more state start old new of since) all)
         go (failed free pends same rest history dead still) =
             shows_still state start old new shown shown [] of (omega (arith, pends)) since.verified (history ∙ sym (append-nil old.recording.history)) still
-            (λ p. ap moves_in (records_kept (Some start) shown p)) is
+            (λ p. ap joined (records_kept (Some start) shown p)) is
 
     -- if the last moves were not answered, the disk has stopped the table
     lost : Asks old new result → shown ≡ false → new.halt ≡ Some halt.Disk

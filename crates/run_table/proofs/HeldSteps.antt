@@ -1,4 +1,4 @@
--- A step of a held table: what it adds to the lists of answered moves of both paths.
+-- A step of a held table: what it adds to what both turrets were told.
 -- HeldKept, WaitsTold and FlushedShown use it.
 use Rattle.std.proofs.Common.{◌≡◌, ◌≢◌, inl, inr, ℕ, ◌+◌, ◌<◌, ◌==◌, ◌&&◌, Bool, true, false, List, [], ◌∷◌, ◌++◌, length, drop, refl, sym, ◌∙◌, ap, subst, arith, append-nil, append_assoc, length-append, Option, Some, None}
 use Rattle.std.specs.Prelude.{nat_lt, not, MatchOption}
@@ -8,10 +8,14 @@ use Rattle.nc_number.specs.declared.path.Path.{Path}
 use Rattle.nc_number.proofs.Bools.{and_false, not_false}
 use Rattle.nc_number.specs.declared.limits.TheConstants.{MOST_PENDING}
 use Rattle.nc_number.specs.Both.{of_path}
+use Rattle.nc_number.specs.declared.both.Both.{Both}
+use Rattle.nc_outside.specs.Calls.{told_at}
+use Rattle.run_table.specs.declared.resting.Resting.{Resting}
+use Rattle.seat_table.specs.Turning.{Answers as Adds}
 use Rattle.nc_outside.specs.declared.halt.Halt.{Halt}
 use Rattle.nc_outside.specs.declared.halt.Halt.TheVariants as halt
 use Rattle.nc_outside.specs.declared.halt.Next.TheVariants as next
-use Rattle.nc_outside.specs.declared.lined_move.LinedMove.{LinedMove}
+use Rattle.nc_outside.specs.declared.got.Got.{Got}
 use Rattle.nc_verify.specs.declared.verified.Verified.{Verified}
 use Rattle.run_records.specs.Entries.{Entry, edit_of}
 use Rattle.run_records.specs.declared.entry.EntryKind.{EntryKind}
@@ -22,25 +26,27 @@ use Rattle.two_path.specs.Turns.{Tapes, turn_of, kind_of, entry_with, entry_of}
 use Rattle.two_path.specs.Histories.{list_of, fold, IsKept}
 use Rattle.two_path.specs.Again.{turn_of_entry}
 use Rattle.two_path.proofs.Edited.{no_edit}
-use Rattle.seat_table.specs.Turning.{Answers as Adds}
+use Rattle.seat_table.specs.Turning.{Draining}
 use Rattle.run_table.specs.declared.answer.TableStep.{TableStep}
-use Rattle.run_table.specs.declared.answer.TableStep.TheVariants.{Turned, Drain, DiskFault, Halted}
-use Rattle.run_table.specs.Draining.{owed_behind}
+use Rattle.run_table.specs.declared.answer.TableStep.TheVariants.{Turned, Drain, Undrained, DiskFault, Halted}
+use Rattle.run_table.specs.Draining.{rest_behind, rest_told, resting_behind, told_in_turn, FitsRest}
 use Rattle.run_table.specs.Kept.{TableView, tapes_in, opening_of, MayGoOn, HasReason, IsTable}
 use Rattle.run_table.specs.Since.{Since}
 use Rattle.run_table.specs.Stepping.{is_due, bound_of, drains, step_by, step_of, Answers, reason_behind, IsStep}
 use Rattle.run_table.specs.Stepping.Answers.{at_once, flushed, failed}
-use Rattle.two_path.specs.Made.{moves_made_in}
+use Rattle.run_table.specs.Made.{joined}
 use Rattle.two_path.proofs.Folds.{fold_parts}
-use Rattle.run_table.specs.Holding.{HeldView, held_of, answered_from, records_since, next_of, is_lost}
+use Rattle.run_table.specs.Holding.{HeldView, held_of, answered_from, records_since, told_since, next_of, is_lost}
 use Rattle.run_table.proofs.OtherGoesOn.{waits_still}
-use Rattle.run_table.proofs.ListsGrow.{GrowsBy, shown_grows, lost_grows, turn_adds, turn_stays}
+use Rattle.run_table.proofs.ListsGrow.{GrowsBy, GrowsByTurn, Grows, shown_grows, lost_grows}
+use Rattle.run_table.proofs.ToldOwn.{others_grow, rests_kept, rests_other, rests_own, step_own}
 use Rattle.run_table.proofs.Redone.{redone}
 
 -- no record is lost if none was made
 none_lost : (result : TableStep) (n n' : ℕ) → n' ≡ n → is_lost result n n' ≡ false
 none_lost (Turned t) n n' same = refl
-none_lost Drain n n' same = refl
+none_lost (Drain code) n n' same = refl
+none_lost Undrained n n' same = refl
 none_lost DiskFault n n' same = let is : (n == n') ≡ true = grind arith in ap not is
 none_lost (Halted why) n n' same = refl
 
@@ -60,7 +66,8 @@ still false = refl
 -- a step of a path of a held table that was opened as `start`, from the table t to t'
 module _ {D : Type 0} (state : D → DiskState) (path : Path) (start t t' : TableView D) (result : TableStep) (shown shown' : Bool)
     (table : IsTable state t) (since : Since state start t) (lost : shown ≡ false → t.halt ≡ Some halt.Disk)
-    (step : IsStep state (step_of t path) t t' result) (owed : t'.owed ≡ owed_behind path result t.owed)
+    (step : IsStep state (step_of t path) t t' result) (resting : t'.resting ≡ resting_behind path result t.resting)
+    (fits : FitsRest (of_path t.resting path) result)
     (shown_is : shown' ≡ (shown && not (is_lost result (length t.recording.history) (length t'.recording.history)))) where
   -- both tapes of the table
   abbrev tapes : Tapes
@@ -70,19 +77,27 @@ module _ {D : Type 0} (state : D → DiskState) (path : Path) (start t t' : Tabl
   abbrev first : MachineView
   first = fold (tapes_in start.verified) (opening_of start.verified) start.recording.history
 
-  -- the records of a path since the opening with their answered moves, before the step
-  abbrev before : Path → List (List LinedMove)
+  -- the records of a path since the opening with what they told, before the step
+  abbrev before : Path → List (List Got)
   before p = records_since (Some start) (held_of t shown) p
 
-  -- the records of a path since the opening with their answered moves, after the step
-  abbrev after : Path → List (List LinedMove)
+  -- the records of a path since the opening with what they told, after the step
+  abbrev after : Path → List (List Got)
   after p = records_since (Some start) (held_of t' shown') p
 
-  -- this answer is what the step adds to the list of its path, and the other's list stays
+  -- what was told the turret of a path since the opening, before the step
+  abbrev told : Path → List Got
+  told p = told_since (Some start) (held_of t shown) p
+
+  -- what was told the turret of a path since the opening, after the step
+  abbrev told' : Path → List Got
+  told' p = told_since (Some start) (held_of t' shown') p
+
+  -- this answer is what the step tells the turret of its path, and the other's is told nothing
   abbrev Comes : TableStep → Type 0
   Comes answer =
-      MatchOption (next_of answer) (◌≡◌ {A = HeldView D} (held_of t' shown') (held_of t shown)) (λ next. Adds (before path) next (after path))
-      × ((p : Path) → p ≢ path → after p ≡ before p)
+      MatchOption (next_of answer) (◌≡◌ {A = HeldView D} (held_of t' shown') (held_of t shown)) (λ next. Adds (told path) next (told' path))
+      × ((p : Path) → p ≢ path → told' p ≡ told p)
 
   -- before the step the records since the opening are those that were made since
   behind : drop (length start.recording.history) t.recording.history ≡ since.made
@@ -143,29 +158,29 @@ module _ {D : Type 0} (state : D → DiskState) (path : Path) (start t t' : Tabl
     kept = subst (λ (v : Verified). IsKept (tapes_in v) (opening_of v) t.recording.history t.machine) since.verified table.kept
 
     -- the moves of the turn's record, done again, are those of the turn
-    same_moves : (k : EntryKind) → edit_of k ≡ None → moves_made_in (turn_of_entry tapes (entry k) (fold tapes first since.made)) ≡ moves_made_in the_turn
+    same_moves : (k : EntryKind) → edit_of k ≡ None → told_in_turn (turn_of_entry tapes (entry k) (fold tapes first since.made)) ≡ told_in_turn the_turn
     same_moves k plain =
         let there : fold tapes first since.made ≡ without_reads t.machine =
         sym (fold_parts tapes (opening_of start.verified) start.recording.history since.made) ∙ ap (fold tapes (opening_of start.verified)) (sym since.recording.history) ∙ kept.folds in
-        ap (λ (m : MachineView). moves_made_in (turn_of_entry tapes (entry k) m)) there
-        ∙ ap moves_made_in (redone tapes path t.machine k plain kept.lawful)
-        ∙ ap (λ (v : Verified). moves_made_in (turn_of (tapes_in v) path t.machine).turn) (sym since.verified)
+        ap (λ (m : MachineView). told_in_turn (turn_of_entry tapes (entry k) m)) there
+        ∙ ap told_in_turn (redone tapes path t.machine k plain kept.lawful)
+        ∙ ap (λ (v : Verified). told_in_turn (turn_of (tapes_in v) path t.machine).turn) (sym since.verified)
 
     -- a step that makes one record, and its answer
     module _ (k : EntryKind) (grown : t'.recording.history ≡ t.recording.history ++ entry k ∷ []) where
-      -- a record whose moves are answered adds them to the list of its path
-      pub shown_grown : edit_of k ≡ None → (is_lost result (length t.recording.history) (length t'.recording.history) ≡ false) → GrowsBy path (moves_made_in the_turn) before after
+      -- a record that is answered adds what it tells to the list of its path
+      pub shown_grown : edit_of k ≡ None → (is_lost result (length t.recording.history) (length t'.recording.history) ≡ false) → GrowsBy path (told_in_turn the_turn) before after
       shown_grown plain kept_it =
           let now : shown' ≡ true = shown_is ∙ ap (λ (b : Bool). shown && not b) kept_it ∙ still shown ∙ shown_before in
-          subst (λ (b : Bool). GrowsBy path (moves_made_in the_turn) (λ p. answered_from tapes first p b (drop (length start.recording.history) t.recording.history)) after) (sym shown_before)
-          (subst (λ (b : Bool). GrowsBy path (moves_made_in the_turn) (λ p. answered_from tapes first p true (drop (length start.recording.history) t.recording.history))
+          subst (λ (b : Bool). GrowsBy path (told_in_turn the_turn) (λ p. answered_from tapes first p b (drop (length start.recording.history) t.recording.history)) after) (sym shown_before)
+          (subst (λ (b : Bool). GrowsBy path (told_in_turn the_turn) (λ p. answered_from tapes first p true (drop (length start.recording.history) t.recording.history))
           (λ p. answered_from tapes first p b (drop (length start.recording.history) t'.recording.history))) (sym now)
-          (subst (λ (l : List Entry). GrowsBy path (moves_made_in the_turn) (λ p. answered_from tapes first p true l)
+          (subst (λ (l : List Entry). GrowsBy path (told_in_turn the_turn) (λ p. answered_from tapes first p true l)
           (λ p. answered_from tapes first p true (drop (length start.recording.history) t'.recording.history))) (sym behind)
-          (subst (λ (l : List Entry). GrowsBy path (moves_made_in the_turn) (λ p. answered_from tapes first p true since.made) (λ p. answered_from tapes first p true l)) (sym (behind' (entry k ∷ []) grown))
-          (shown_grows tapes first path since.made (entry k) refl (moves_made_in the_turn) (same_moves k plain)))))
+          (subst (λ (l : List Entry). GrowsBy path (told_in_turn the_turn) (λ p. answered_from tapes first p true since.made) (λ p. answered_from tapes first p true l)) (sym (behind' (entry k ∷ []) grown))
+          (shown_grows tapes first path since.made (entry k) refl (told_in_turn the_turn) (same_moves k plain)))))
 
-      -- a record whose moves were lost adds an entry without moves
+      -- a record that was lost adds an empty entry
       pub lost_grown : (is_lost result (length t.recording.history) (length t'.recording.history) ≡ true) → GrowsBy path [] before after
       lost_grown lost_it =
           let now : shown' ≡ false = shown_is ∙ ap (λ (b : Bool). shown && not b) lost_it ∙ and_false shown false refl in
@@ -178,7 +193,7 @@ module _ {D : Type 0} (state : D → DiskState) (path : Path) (start t t' : Tabl
           (lost_grows tapes first path since.made (entry k) refl))))
 
     -- a turn that says that the path waits
-    module _ (turned : IsStep state (step_by t path None None false) t t' result) (code : ℕ) (waits : the_turn ≡ turn.Waiting code) where
+    module _ (turned : IsStep state (step_by t path None None Draining.none) t t' result) (code : ℕ) (waits : the_turn ≡ turn.Waiting code) where
       -- a path that waits makes no record
       none_made : list_of (entry_of (tapes_in t.verified) path t.machine) ≡ []
       none_made = made_is None (ap kind_of waits)
@@ -209,7 +224,7 @@ module _ {D : Type 0} (state : D → DiskState) (path : Path) (start t t' : Tabl
           let history : t'.recording.history ≡ t.recording.history = same_history ∙ append-nil t.recording.history in
           let halts : t'.halt ≡ t.halt = turned.halt ∙ ap (reason_behind t.halt) is ∙ (ap (λ (h : Option Halt). reason_behind h (Turned (turn.Waiting code))) why ∙ sym why) in
           let spent : t'.budget ≡ t.budget = let none : length (list_of (entry_of (tapes_in t.verified) path t.machine)) ≡ 0 = ap length none_made in omega (arith, turned.budget, none) in
-          let owes : t'.owed ≡ t.owed = owed ∙ ap (λ (r : TableStep). owed_behind path r t.owed) is in
+          let owes : t'.resting ≡ t.resting = resting ∙ ap (λ (r : TableStep). resting_behind path r t.resting) is ∙ rests_kept path t.resting in
           λ i. record {
             verified = turned.verified i;
             machine = machine i;
@@ -218,69 +233,100 @@ module _ {D : Type 0} (state : D → DiskState) (path : Path) (start t t' : Tabl
             file = at.1 i;
             halt = halts i;
             budget = spent i;
-            owed = owes i;
+            resting = owes i;
             shown = shown_same same_history i;
           }
 
     -- a step that is the path's turn
-    module _ (turned : IsStep state (step_by t path None None false) t t' result) where
+    module _ (turned : IsStep state (step_by t path None None Draining.none) t t' result) where
       -- the history grows by the record of the turn, if it makes one
       history_by : (k : Option EntryKind) → kind_of the_turn ≡ k → t'.recording.history ≡ t.recording.history ++ list_of (entry_with path (of_path t.machine.paths path).stamps k)
       history_by k is = turned.records.follows.history ∙ ap (λ (l : List Entry). t.recording.history ++ l) (made_is k is)
 
-      -- a turn that is answered adds its moves to the list of its path
-      shown_result : (k : Option EntryKind) → kind_of the_turn ≡ k → result ≡ Turned the_turn → Comes (Turned the_turn)
-      shown_result None is same = (
-        turn_stays (held_of t shown) (held_of t' shown') (before path) (after path) the_turn is (stays (history_by None is) path) (λ code waits. unchanged turned code waits),
-        λ p differ. stays (history_by None is) p,
-      )
+      -- a turn that is answered adds what it tells to the list of its path
+      shown_result : (k : Option EntryKind) → kind_of the_turn ≡ k → result ≡ Turned the_turn → GrowsByTurn path the_turn k before after
+      shown_result None is same = stays (history_by None is)
       shown_result (Some k) is same =
-          let grows = shown_grown k (history_by (Some k) is) (no_edit the_turn k is) (ap (λ (r : TableStep). is_lost r (length t.recording.history) (length t'.recording.history)) same) in
-          (turn_adds (held_of t shown) (held_of t' shown') (before path) (after path) the_turn k is grows.own, grows.others)
+          shown_grown k (history_by (Some k) is) (no_edit the_turn k is) (ap (λ (r : TableStep). is_lost r (length t.recording.history) (length t'.recording.history)) same)
 
-      -- a turn whose flush failed adds no moves
-      failed_result : (k : Option EntryKind) → kind_of the_turn ≡ k → result ≡ DiskFault → Comes DiskFault
-      failed_result None is same = (inl (stays (history_by None is) path), λ p differ. stays (history_by None is) p)
+      -- a turn whose flush failed adds nothing that is told
+      failed_result : (k : Option EntryKind) → kind_of the_turn ≡ k → result ≡ DiskFault → Grows path DiskFault before after
+      failed_result None is same = inr (stays (history_by None is))
       failed_result (Some k) is same =
           let more : length t'.recording.history ≡ length t.recording.history + 1 = count' (entry k ∷ []) (history_by (Some k) is) in
-          let grows = lost_grown k (history_by (Some k) is)
-          (ap (λ (r : TableStep). is_lost r (length t.recording.history) (length t'.recording.history)) same ∙ one_lost (length t.recording.history) (length t'.recording.history) more) in
-          (inr grows.own, grows.others)
+          inl (lost_grown k (history_by (Some k) is)
+          (ap (λ (r : TableStep). is_lost r (length t.recording.history) (length t'.recording.history)) same ∙ one_lost (length t.recording.history) (length t'.recording.history) more))
 
       -- the result of a turn is what the step adds, whether the flush before it failed or not
-      pub turn_comes : Answers state (is_due t.recording (list_of (entry_of (tapes_in t.verified) path t.machine)) the_turn) (Turned the_turn) t.recording t'.recording result → Comes result
-      turn_comes (at_once now same file even) = subst Comes (sym same) (shown_result (kind_of the_turn) refl same)
-      turn_comes (flushed due same live all) = subst Comes (sym same) (shown_result (kind_of the_turn) refl same)
-      turn_comes (failed due same dead stay rose) = subst Comes (sym same) (failed_result (kind_of the_turn) refl same)
+      turn_grows : Answers state (is_due t.recording (list_of (entry_of (tapes_in t.verified) path t.machine)) the_turn) (Turned the_turn) t.recording t'.recording result
+          → Grows path result before after
+      turn_grows (at_once now same file even) = subst (λ (r : TableStep). Grows path r before after) (sym same) (shown_result (kind_of the_turn) refl same)
+      turn_grows (flushed due same live all) = subst (λ (r : TableStep). Grows path r before after) (sym same) (shown_result (kind_of the_turn) refl same)
+      turn_grows (failed due same dead stay rose) = subst (λ (r : TableStep). Grows path r before after) (sym same) (failed_result (kind_of the_turn) refl same)
 
-  -- an answer that the table has stopped adds nothing
-  halted_comes : (why : Halt) (due : Bool) → t'.recording.history ≡ t.recording.history ++ []
-      → Answers state due (Halted why) t.recording t'.recording result → Comes result
-  halted_comes why due grown (at_once now same file even) = subst Comes (sym same) (inl (stays grown path), λ p differ. stays grown p)
-  halted_comes why due grown (flushed was same live all) = subst Comes (sym same) (inl (stays grown path), λ p differ. stays grown p)
-  halted_comes why due grown (failed was same dead stay rose) = subst Comes (sym same) (inl (stays grown path), λ p differ. stays grown p)
+      -- after a turn that says that the path waits the held table is as it was
+      turn_waits : Answers state (is_due t.recording (list_of (entry_of (tapes_in t.verified) path t.machine)) the_turn) (Turned the_turn) t.recording t'.recording result
+          → (code : ℕ) → result ≡ Turned (turn.Waiting code) → ◌≡◌ {A = HeldView D} (held_of t' shown') (held_of t shown)
+      turn_waits (at_once now same file even) code is = let turned_is : Turned the_turn ≡ Turned (turn.Waiting code) = sym same ∙ is in let waits : the_turn ≡ turn.Waiting code = cc in unchanged turned code waits
+      turn_waits (flushed due same live all) code is = let turned_is : Turned the_turn ≡ Turned (turn.Waiting code) = sym same ∙ is in let waits : the_turn ≡ turn.Waiting code = cc in unchanged turned code waits
+      turn_waits (failed due same dead stay rose) code is = absurd (let clash : DiskFault ≡ Turned (turn.Waiting code) = sym same ∙ is in cc)
 
-  -- a drain adds nothing
-  drain_comes : t'.recording.history ≡ t.recording.history ++ [] → Answers state false Drain t.recording t'.recording result → Comes result
-  drain_comes grown (at_once now same file even) = subst Comes (sym same) (stays grown path, λ p differ. stays grown p)
-  drain_comes grown (flushed was same live all) = absurd (let clash : false ≡ true = was in cc)
-  drain_comes grown (failed was same dead stay rose) = absurd (let clash : false ≡ true = was in cc)
+  -- an answer without a turn adds nothing
+  idle_grows : (answer : TableStep) (due : Bool) → ((p : Path) → after p ≡ before p) → Grows path answer before after → Answers state due answer t.recording t'.recording result → Grows path result before after
+  idle_grows answer due same_all grows (at_once now same file even) = subst (λ (r : TableStep). Grows path r before after) (sym same) grows
+  idle_grows answer due same_all grows (flushed was same live all) = subst (λ (r : TableStep). Grows path r before after) (sym same) grows
+  idle_grows answer due same_all grows (failed was same dead stay rose) = subst (λ (r : TableStep). Grows path r before after) (sym same) (inr same_all)
 
-  -- what a step answers is what it adds to the moves of its path
-  pub comes : Comes result
-  comes = go t.halt (bound_of t) (drains t path) refl step
+  -- what a step answers is what it adds to the lists of records
+  pub grows : Grows path result before after
+  grows = go t.halt (bound_of t) (drains t path) refl step
     where
-      go : (why bound : Option Halt) (drain : Bool) → t.halt ≡ why → IsStep state (step_by t path why bound drain) t t' result → Comes result
-      go (Some why) bound drain is s = halted_comes why false s.records.follows.history s.answer
-      go None (Some why) drain is s = halted_comes why (nat_lt t.recording.flushed (length t.recording.history)) s.records.follows.history s.answer
-      go None None true is s = drain_comes s.records.follows.history s.answer
-      go None None false is s = turn_comes is s s.answer
+      go : (why bound : Option Halt) (drain : Draining) → t.halt ≡ why → IsStep state (step_by t path why bound drain) t t' result → Grows path result before after
+      go (Some why) bound drain is s = let same = stays s.records.follows.history in idle_grows (Halted why) false same same s.answer
+      go None (Some why) drain is s =
+          let same = stays s.records.follows.history in idle_grows (Halted why) (nat_lt t.recording.flushed (length t.recording.history)) same same s.answer
+      go None None (Draining.due code) is s = let same = stays s.records.follows.history in idle_grows (Drain code) false same same s.answer
+      go None None (Draining.asked code) is s = let same = stays s.records.follows.history in idle_grows Undrained false same same s.answer
+      go None None Draining.none is s = turn_grows is s s.answer
+
+  -- an answer that is none of a turn does not say that the path waits
+  idle_waits : (answer : TableStep) (due : Bool) (code : ℕ) → (answer ≡ Turned (turn.Waiting code) → ⊥) → Answers state due answer t.recording t'.recording result
+      → result ≡ Turned (turn.Waiting code) → ⊥
+  idle_waits answer due code not_so (at_once now same file even) is = not_so (sym same ∙ is)
+  idle_waits answer due code not_so (flushed was same live all) is = not_so (sym same ∙ is)
+  idle_waits answer due code not_so (failed was same dead stay rose) is = let clash : DiskFault ≡ Turned (turn.Waiting code) = sym same ∙ is in cc
+
+  -- a step that says that the path waits leaves the held table as it was
+  waits_same : (code : ℕ) → result ≡ Turned (turn.Waiting code) → ◌≡◌ {A = HeldView D} (held_of t' shown') (held_of t shown)
+  waits_same code is = go t.halt (bound_of t) (drains t path) refl step
+    where
+      go : (why bound : Option Halt) (drain : Draining) → t.halt ≡ why → IsStep state (step_by t path why bound drain) t t' result → ◌≡◌ {A = HeldView D} (held_of t' shown') (held_of t shown)
+      go (Some why) bound drain halts s = absurd (idle_waits (Halted why) false code (λ clash. cc) s.answer is)
+      go None (Some why) drain halts s = absurd (idle_waits (Halted why) _ code (λ clash. cc) s.answer is)
+      go None None (Draining.due at) halts s = absurd (idle_waits (Drain at) false code (λ clash. cc) s.answer is)
+      go None None (Draining.asked at) halts s = absurd (idle_waits Undrained false code (λ clash. cc) s.answer is)
+      go None None Draining.none halts s = turn_waits halts s s.answer code is
+
+  -- what a step answers is what it tells the turret of its path
+  pub comes : Comes result
+  comes = (
+    subst (λ (r : Resting). MatchOption (next_of result) (◌≡◌ {A = HeldView D} (held_of t' shown') (held_of t shown)) (λ next. joined (after path) ++ rest_told r ≡ told path ++ told_at next)) (sym own_rest)
+        (step_own {H = HeldView D} (held_of t shown) (held_of t' shown') path result (of_path t.resting path) before after grows fits waits_same),
+    λ p differ. (λ i. joined (others_grow path result before after grows p differ i) ++ rest_told (other_rest p differ i)),
+  )
+    where
+      own_rest : of_path t'.resting path ≡ rest_behind result (of_path t.resting path)
+      own_rest = ap (λ (b : Both Resting). of_path b path) resting ∙ rests_own path (rest_behind result (of_path t.resting path)) t.resting
+
+      other_rest : (p : Path) → p ≢ path → of_path t'.resting p ≡ of_path t.resting p
+      other_rest p differ = ap (λ (b : Both Resting). of_path b p) resting ∙ rests_other path p (rest_behind result (of_path t.resting path)) t.resting differ
 
   -- a table that has halted answers why, and makes no record
-  pub halted_told : (why : Halt) → t.halt ≡ Some why → (next_of result ≡ Some (next.Halted why)) × (t'.halt ≡ Some why) × ((p : Path) → after p ≡ before p)
+  pub halted_told : (why : Halt) → t.halt ≡ Some why → (next_of result ≡ Some (next.Halted why)) × (t'.halt ≡ Some why) × ((p : Path) → told' p ≡ told p)
   halted_told why is =
       let s = subst (λ (h : Option Halt). IsStep state (step_by t path h (bound_of t) (drains t path)) t t' result) is step in
-      (ap next_of (answered s.answer), step.halt ∙ ap (λ (h : Option Halt). reason_behind h result) is, stays s.records.follows.history)
+      let rests : t'.resting ≡ t.resting = resting ∙ ap (λ (r : TableStep). resting_behind path r t.resting) (answered s.answer) ∙ rests_kept path t.resting in
+      (ap next_of (answered s.answer), step.halt ∙ ap (λ (h : Option Halt). reason_behind h result) is, λ p i. joined (stays s.records.follows.history p i) ++ rest_told (of_path (rests i) p))
     where
       answered : Answers state false (Halted why) t.recording t'.recording result → result ≡ Halted why
       answered (at_once now same file even) = same
@@ -293,7 +339,8 @@ module _ {D : Type 0} (state : D → DiskState) (path : Path) (start t t' : Tabl
     where
       only_fault : (r : TableStep) → is_lost r (length t.recording.history) (length t'.recording.history) ≡ true → r ≡ DiskFault
       only_fault (Turned u) clash = absurd cc
-      only_fault Drain clash = absurd cc
+      only_fault (Drain code) clash = absurd cc
+      only_fault Undrained clash = absurd cc
       only_fault DiskFault same = refl
       only_fault (Halted why) clash = absurd cc
 

@@ -12,9 +12,11 @@ mod MovesFew
 mod OtherGoesOn
 mod RecordingsFollow
 mod Redone
+mod RestsKept
 mod StepsTaken
 mod TablesBegin
 mod TablesKept
 pub mod Then
+mod ToldOwn
 mod WaitsAhead
 mod WaitsTold

@@ -62,14 +62,19 @@ use Rattle.path_state.specs.Effect.{Effect, Need, Done, AtWait, AtEnd, Moved, af
 use Rattle.path_state.specs.Effect as effect
 use Rattle.run_records.specs.Entries.{Entry, edit_of}
 use Rattle.run_records.specs.declared.edit.Edit.{Edit}
-use Rattle.seat_table.specs.Turning.{moves_in}
 use Rattle.two_path.specs.Machine.{MachineView, own_first}
 use Rattle.two_path.specs.Turns.{TurnResult, blocks_of, tapes_of, result_at_wait, result_by, unless_idle, block_turn, own_turn}
 use Rattle.two_path.specs.Histories.{with_reads, behind_entry, fold}
 use Rattle.two_path.specs.Again.{turn_by, turn_of_entry}
 use Rattle.run_table.specs.Kept.{tapes_in, opening_of}
 use Rattle.two_path.specs.Made.{moves_made_in}
-use Rattle.run_table.specs.Made.{shown_from, moves_made}
+use Rattle.nc_outside.specs.Lined.{lined_moves}
+use Rattle.two_path.specs.declared.turn.Turn.{Turn}
+use Rattle.two_path.specs.declared.turn.Turn.TheVariants as turn
+use Rattle.run_table.specs.Made.{joined, shown_from, moves_made, told_from, told_made}
+use Rattle.run_table.specs.Draining.{told_in_turn}
+use Rattle.nc_outside.specs.declared.got.Got.{Got}
+use Rattle.nc_outside.specs.declared.got.Got.TheVariants as got
 
 -- the answer of a track: two moves at most, or a fault
 abbrev FewTracked : {E : Type 0} → Result (List Move) E → Type 0
@@ -353,16 +358,16 @@ again_few left right path None stamps m = either_few left right path path (with_
 again_few left right path (Some edit) stamps m = omega arith
 
 -- the records of a history have seven moves each at most
-records_few : (left right : Flow) (path : Path) (entries : List Entry) (m : MachineView) → length (moves_in (shown_from (tapes_of left right) m path entries)) ≤ 7 * length entries
+records_few : (left right : Flow) (path : Path) (entries : List Entry) (m : MachineView) → length (joined (shown_from (tapes_of left right) m path entries)) ≤ 7 * length entries
 records_few left right path [] m = omega arith
 records_few left right path (e ∷ entries) m =
     go (is_same path e.path) (moves_made_in (turn_of_entry (tapes_of left right) e m))
     (again_few left right e.path (edit_of e.kind) e.stamps (own_first e.path m))
     (records_few left right path entries (behind_entry (tapes_of left right) e m))
   where
-    go : (b : Bool) (moves : List LinedMove) → length moves ≤ 7 → length (moves_in (shown_from (tapes_of left right) (behind_entry (tapes_of left right) e m) path entries)) ≤ 7 * length entries
-        → length (moves_in ((if b then moves ∷ [] else []) ++ shown_from (tapes_of left right) (behind_entry (tapes_of left right) e m) path entries)) ≤ 7 * length (e ∷ entries)
-    go true moves few rest = omega (arith, few, rest, length-append moves (moves_in (shown_from (tapes_of left right) (behind_entry (tapes_of left right) e m) path entries)))
+    go : (b : Bool) (moves : List LinedMove) → length moves ≤ 7 → length (joined (shown_from (tapes_of left right) (behind_entry (tapes_of left right) e m) path entries)) ≤ 7 * length entries
+        → length (joined ((if b then moves ∷ [] else []) ++ shown_from (tapes_of left right) (behind_entry (tapes_of left right) e m) path entries)) ≤ 7 * length (e ∷ entries)
+    go true moves few rest = omega (arith, few, rest, length-append moves (joined (shown_from (tapes_of left right) (behind_entry (tapes_of left right) e m) path entries)))
     go false moves few rest = omega (arith, rest)
 
 -- a path's moves of these records are seven a record at most
@@ -370,4 +375,37 @@ pub made_few : (pair : Verified) (path : Path) (from upto : ℕ) (history : List
 made_few pair path from upto history =
     let part = drop from (take upto history) in
     let few = records_few pair.left pair.right path part (fold (tapes_in pair) (opening_of pair) (take from history)) in
+    omega (arith, few, length-drop from (take upto history), length-take upto history)
+
+-- a turn that makes seven moves at most tells seven things at most
+turn_tells : (t : Turn) → length (moves_made_in t) ≤ 7 → length (told_in_turn t) ≤ 7
+turn_tells (turn.Read variable stamp) few = omega arith
+turn_tells (turn.Did moves) few = omega (arith, few, length-map (lined_moves moves) (λ m. got.Moved m))
+turn_tells (turn.Arrived code) few = omega arith
+turn_tells (turn.Met code) few = omega arith
+turn_tells (turn.Ended moves) few = omega (arith, few, length-map (lined_moves moves) (λ m. got.Moved m))
+turn_tells (turn.Waiting code) few = omega arith
+turn_tells turn.Finished few = omega arith
+turn_tells (turn.Alarm alarm) few = omega arith
+turn_tells (turn.Halted alarm) few = omega arith
+turn_tells turn.Edited few = omega arith
+
+-- the records of a history tell seven things each at most
+records_tell : (left right : Flow) (path : Path) (entries : List Entry) (m : MachineView) → length (joined (told_from (tapes_of left right) m path entries)) ≤ 7 * length entries
+records_tell left right path [] m = omega arith
+records_tell left right path (e ∷ entries) m =
+    go (is_same path e.path) (told_in_turn (turn_of_entry (tapes_of left right) e m))
+    (turn_tells (turn_of_entry (tapes_of left right) e m) (again_few left right e.path (edit_of e.kind) e.stamps (own_first e.path m)))
+    (records_tell left right path entries (behind_entry (tapes_of left right) e m))
+  where
+    go : (b : Bool) (told : List Got) → length told ≤ 7 → length (joined (told_from (tapes_of left right) (behind_entry (tapes_of left right) e m) path entries)) ≤ 7 * length entries
+        → length (joined ((if b then told ∷ [] else []) ++ told_from (tapes_of left right) (behind_entry (tapes_of left right) e m) path entries)) ≤ 7 * length (e ∷ entries)
+    go true told few rest = omega (arith, few, rest, length-append told (joined (told_from (tapes_of left right) (behind_entry (tapes_of left right) e m) path entries)))
+    go false told few rest = omega (arith, rest)
+
+-- what a path's records tell is seven things a record at most
+pub told_few : (pair : Verified) (path : Path) (from upto : ℕ) (history : List Entry) → length (told_made pair path from upto history) ≤ 7 * (upto - from)
+told_few pair path from upto history =
+    let part = drop from (take upto history) in
+    let few = records_tell pair.left pair.right path part (fold (tapes_in pair) (opening_of pair) (take from history)) in
     omega (arith, few, length-drop from (take upto history), length-take upto history)

@@ -1,6 +1,14 @@
 -- The parts of a step as one call: records that are added, a flush after them, and the answer.
 -- Then and the proofs of `take` and `flush_before` (src/stepping.rt) and `Table::step_into`
 -- (src/table.rt) use it.
+use Rattle.nc_moves.specs.declared.motion.Move.{Move}
+use Rattle.nc_number.specs.declared.both.Both.{Both}
+use Rattle.seat_table.specs.Turning.{Draining}
+use Rattle.run_table.specs.Apart.{step_with}
+use Rattle.run_table.specs.Draining.{drain_answer}
+use Rattle.run_table.specs.declared.answer.StepAnswer.{StepAnswer}
+use Rattle.run_table.specs.declared.answer.StepAnswer.TheVariants as apart
+use Rattle.run_table.specs.declared.resting.Resting.{Resting}
 use Rattle.std.proofs.Common.{rules, ◌≡◌, ℕ, ◌+◌, ◌≤◌, ◌<◌, Bool, true, false, List, [], ◌++◌, length, drop, refl, sym, ◌∙◌, ap, subst, arith, length-append, append-nil, ◌==◌, Option, Some, None}
 use Rattle.std.specs.Prelude.{IsTrue, nat_lt}
 use Rattle.disk_model.specs.Device.{DiskState, IsCoherent, Reads, Rose}
@@ -15,9 +23,9 @@ use Rattle.nc_number.specs.declared.limits.TheConstants.{MOST_PENDING}
 use Rattle.nc_outside.specs.declared.halt.Halt.{Halt}
 use Rattle.two_path.specs.declared.turn.Turn.{Turn}
 use Rattle.run_table.specs.declared.answer.TableStep.{TableStep}
-use Rattle.run_table.specs.declared.answer.TableStep.TheVariants.{Drain, DiskFault, Halted}
+use Rattle.run_table.specs.declared.answer.TableStep.TheVariants.{Drain, Undrained, DiskFault, Halted}
 use Rattle.run_table.specs.Kept.{TableView}
-use Rattle.run_table.specs.Stepping.{Answers, is_shown, is_due, drains, step_by, step_of, bound_of, IsStep}
+use Rattle.run_table.specs.Stepping.{Answers, is_shown, is_due, drains, step_by, step_of, bound_of, idle_step, reason_of, IsStep}
 use Rattle.run_table.specs.Stepping.Answers.{at_once, flushed, failed}
 use Rattle.run_table.specs.Recording.{RecordingView, StandsForPrefix, Records, IsNoted}
 use Rattle.run_table.proofs.RecordingsFollow.{sends_nothing}
@@ -134,18 +142,31 @@ kept_step state t path why is coherent =
       verified = refl;
     })
 
--- if the path has to be drained, the step leaves the table as it is
-pub drain_step : {D : Type 0} (state : D → DiskState) (t : TableView D) (path : Path) → t.halt ≡ None → bound_of t ≡ None → drains t path ≡ true
-    → ((disk : D) → IsCoherent (state disk)) → IsStep state (step_of t path) t t Drain
-drain_step state t path kept bound drain coherent =
-    subst (λ (d : Bool). IsStep state (step_by t path t.halt (bound_of t) d) t t Drain) (sym drain)
-    (subst (λ (b : Option Halt). IsStep state (step_by t path t.halt b true) t t Drain) (sym bound)
-    (subst (λ (h : Option Halt). IsStep state (step_by t path h None true) (record t { halt = h }) (record t { halt = h }) Drain) (sym kept)
-    (record {
+-- if the path has to be drained, the step changes nothing but which turrets rest for a wait
+pub drain_step : {D : Type 0} (state : D → DiskState) (t : TableView D) (path : Path) (drain : Draining) (answer : StepAnswer) (moves : List Move) (resting : Both Resting)
+    → t.halt ≡ None → bound_of t ≡ None → drains t path ≡ drain → drain_answer drain ≡ Some answer → ((disk : D) → IsCoherent (state disk))
+    → IsStep state (step_of t path) t (record t { resting = resting }) (step_with answer moves)
+drain_step state t path drain answer moves resting kept bound due is coherent =
+    subst (λ (d : Draining). IsStep state (step_by t path t.halt (bound_of t) d) t (record t { resting = resting }) (step_with answer moves)) (sym due)
+    (subst (λ (b : Option Halt). IsStep state (step_by t path t.halt b drain) t (record t { resting = resting }) (step_with answer moves)) (sym bound)
+    (subst (λ (h : Option Halt). IsStep state (step_by t path h None drain) (record t { halt = h }) (record t { halt = h; resting = resting }) (step_with answer moves)) (sym kept)
+    (go drain is)))
+  where
+    idle : (a : TableStep) → reason_of a ≡ None → IsStep state (idle_step t a) (record t { halt = None }) (record t { halt = None; resting = resting }) a
+    idle a none = record {
       answer = at_once refl refl refl refl;
       records = nothing state t.recording coherent;
       machine = refl;
       budget = omega arith;
-      halt = refl;
+      halt = sym none;
       verified = refl;
-    })))
+    }
+
+    go : (d : Draining) → drain_answer d ≡ Some answer → IsStep state (step_by t path None None d) (record t { halt = None }) (record t { halt = None; resting = resting }) (step_with answer moves)
+    go Draining.none e = absurd (let clash : None ≡ Some answer = e in cc)
+    go (Draining.due code) e =
+        let same : apart.Drain code ≡ answer = cc in
+        subst (λ (a : StepAnswer). IsStep state (idle_step t (Drain code)) (record t { halt = None }) (record t { halt = None; resting = resting }) (step_with a moves)) same (idle (Drain code) refl)
+    go (Draining.asked code) e =
+        let same : apart.Undrained ≡ answer = cc in
+        subst (λ (a : StepAnswer). IsStep state (idle_step t Undrained) (record t { halt = None }) (record t { halt = None; resting = resting }) (step_with a moves)) same (idle Undrained refl)

@@ -1,5 +1,7 @@
 -- A table that begins, new or after a recovery, is a table, and its journal is that of its history.
 -- For the proofs of `Table::begin` and `Table::from_recovered` (src/table.rt).
+use Rattle.run_table.proofs.TablesKept.{none_stand}
+use Rattle.run_table.specs.declared.resting.Resting.{Resting}
 use Rattle.std.proofs.Common.{◌≡◌, ℕ, ◌+◌, ◌≤◌, ◌<◌, List, [], ◌∷◌, ◌++◌, length, take, refl, sym, subst, arith, append_assoc, append-nil, Option, Some, None, Ok, Err, inl, Bool}
 use Rattle.std.specs.Prelude.{IsTrue}
 use Rattle.std.proofs.lemmas.List.{take_all}
@@ -27,7 +29,7 @@ use Rattle.run_table.specs.Recording.{RecordingView, IsJournaled}
 use Rattle.run_table.specs.Kept.{TableView, tapes_in, opening_of, IsVerdictOf, HasReason, IsTable}
 use Rattle.nc_number.specs.declared.both.Both.{Both}
 use Rattle.nc_number.specs.declared.limits.TheConstants.{MOST_PENDING}
-use Rattle.run_table.specs.Draining.{none_owed}
+use Rattle.run_table.specs.Draining.{none_resting}
 use Rattle.nc_outside.specs.declared.halt.Halt.{Halt}
 use Rattle.run_table.specs.Begun.{reason_in, recovered_table}
 use Rattle.run_table.specs.Recovered.{IsRecovered, HoldsAll}
@@ -44,13 +46,13 @@ legal_kept tapes start keeps (e ∷ after) before now k bare legal =
     (legal_kept tapes start keeps after (before ++ e ∷ []) (behind_entry tapes e now) then (entry_bare tapes e now) legal.1)
 
 -- a table of these parts is that of the recovery
-pub recovered_parts : {D : Type 0} (verified : Verified) (m : RoomyMachine) (entries : Entries) (log : Log D) (r : RecordingView D) (h : Option Halt) (o : Both Bool)
+pub recovered_parts : {D : Type 0} (verified : Verified) (m : RoomyMachine) (entries : Entries) (log : Log D) (r : RecordingView D) (h : Option Halt) (o : Both Resting)
     → r ≡ record { history = entries.items; room = entries.room; flushed = length entries.items; log = log }
-    → h ≡ reason_in m.machine.alarm → o ≡ none_owed
-    → ◌≡◌ {A = TableView D} (record { verified = verified; machine = m.machine; turns = m.room; recording = r; halt = h; budget = 0; owed = o })
+    → h ≡ reason_in m.machine.alarm → o ≡ none_resting
+    → ◌≡◌ {A = TableView D} (record { verified = verified; machine = m.machine; turns = m.room; recording = r; halt = h; budget = 0; resting = o })
     (recovered_table verified m entries log)
-recovered_parts verified m entries log r h o recorded reason owed =
-    λ i. record { verified = verified; machine = m.machine; turns = m.room; recording = recorded i; halt = reason i; budget = 0; owed = owed i }
+recovered_parts verified m entries log r h o recorded reason resting =
+    λ i. record { verified = verified; machine = m.machine; turns = m.room; recording = recorded i; halt = reason i; budget = 0; resting = resting i }
 
 -- if the disk holds all records, the journal is that of the history
 pub all_held : {D : Type 0} (state : D → DiskState) (header : Header) (entries : List Entry) (room : ℕ) (log : Log D)
@@ -86,6 +88,7 @@ begun_table state v m entries log kept waits few fresh journaled = record {
   few = few;
   turns = omega arith;
   room = λ (some : 1 ≤ 0). absurd (omega (arith, some));
+  rests = λ free q. none_stand v m.machine q;
   reason = alarm_reason m.machine (record { history = entries.items; room = entries.room; flushed = length entries.items; log = log }) m.machine.alarm refl fresh.live (omega arith);
   journaled = journaled;
 }

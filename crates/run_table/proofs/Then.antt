@@ -4,6 +4,7 @@ use Rattle.std.proofs.Common.{Bool, true, false, ◌≡◌, inl, inr, ⊎_elim, 
 use Rattle.disk_model.specs.Device.{DiskState, IsCoherent, Rose}
 use Rattle.nc_number.specs.declared.path.Path.{Path}
 use Rattle.nc_outside.specs.declared.halt.Halt.{Halt}
+use Rattle.seat_table.specs.Turning.{Draining}
 use Rattle.run_table.specs.declared.answer.TableStep.TheVariants.{DiskFault}
 use Rattle.run_table.specs.Kept.{TableView}
 use Rattle.run_table.specs.Since.{Since}
@@ -41,8 +42,9 @@ since_more state a b c f s = record {
 }
 
 -- the answer that a step is to give is never a fault of the disk
-no_fault : {D : Type 0} (t : TableView D) (path : Path) (why bound : Option Halt) (drain : Bool) → (step_by t path why bound drain).answer ≡ DiskFault → ⊥
+no_fault : {D : Type 0} (t : TableView D) (path : Path) (why bound : Option Halt) (drain : Draining) → (step_by t path why bound drain).answer ≡ DiskFault → ⊥
 no_fault t path (Some why) bound drain is = absurd cc
 no_fault t path None (Some why) drain is = absurd cc
-no_fault t path None None true is = absurd cc
-no_fault t path None None false is = absurd cc
+no_fault t path None None (Draining.due code) is = absurd cc
+no_fault t path None None (Draining.asked code) is = absurd cc
+no_fault t path None None Draining.none is = absurd cc

@@ -6,7 +6,6 @@ use Rattle.std.specs.Prelude.{nat_lt, not, MatchOption}
 use Rattle.disk_model.specs.Device.{DiskState}
 use Rattle.nc_number.specs.declared.path.Path.{Path}
 use Rattle.nc_number.specs.declared.path.Path.TheVariants.{One, Two}
-use Rattle.nc_number.proofs.Bools.{both}
 use Rattle.nc_number.specs.Both.{of_path}
 use Rattle.nc_outside.specs.declared.halt.Halt.{Halt}
 use Rattle.nc_moves.specs.declared.alarm.Alarm.{Alarm}
@@ -18,8 +17,11 @@ use Rattle.two_path.specs.Machine.{MachineView, own_first}
 use Rattle.two_path.specs.Turns.{Tapes, TurnResult, unless_idle, block_turn, turn_of, kind_of, entry_with, entry_of, Blocks, own_turn}
 use Rattle.two_path.specs.Histories.{list_of}
 use Rattle.run_table.specs.declared.answer.TableStep.{TableStep}
-use Rattle.run_table.specs.declared.answer.TableStep.TheVariants.{Turned, Drain, Halted}
-use Rattle.run_table.specs.Draining.{is_wait}
+use Rattle.run_table.specs.declared.answer.TableStep.TheVariants.{Turned, Drain, Undrained, Halted}
+use Rattle.seat_table.specs.Turning.{Draining}
+use Rattle.run_table.specs.Draining.{drains_by, wait_of}
+use Rattle.run_table.specs.declared.resting.Resting.{Resting}
+use Rattle.run_table.specs.declared.resting.Resting.TheVariants.{Unasked, Asked, Rests}
 use Rattle.run_table.specs.Kept.{TableView, tapes_in, MayGoOn, HasReason, IsTable}
 use Rattle.run_table.specs.Stepping.{is_due, bound_of, is_waiting, drains, step_by, step_of, Answers, IsStep}
 use Rattle.run_table.specs.Stepping.Answers.{at_once, flushed, failed}
@@ -69,13 +71,13 @@ turn_tells tapes One m = own_tells tapes.one One m
 turn_tells tapes Two m = own_tells tapes.two Two (own_first Two m)
 
 -- a turn that brings the path to a wait is handed on as something
-come_tells : (t : Turn) (Q R : Type 0) → is_wait t ≡ true → Tells t Q R → R
+come_tells : (t : Turn) (Q R : Type 0) → (wait_of t ≡ None → ⊥) → Tells t Q R → R
 come_tells (turn.Read variable stamp) Q R is tells = tells
 come_tells (turn.Did moves) Q R is tells = tells
 come_tells (turn.Arrived code) Q R is tells = tells
 come_tells (turn.Met code) Q R is tells = tells
 come_tells (turn.Ended moves) Q R is tells = tells
-come_tells (turn.Waiting code) Q R is tells = absurd (let clash : false ≡ true = is in cc)
+come_tells (turn.Waiting code) Q R is tells = absurd (is refl)
 come_tells turn.Finished Q R is tells = tells
 come_tells (turn.Alarm alarm) Q R is tells = tells
 come_tells (turn.Halted alarm) Q R is tells = tells
@@ -119,11 +121,16 @@ module _ {D : Type 0} (state : D → DiskState) (path : Path) (t t' : TableView 
   halted_tells why due none (flushed was same live all) = subst Told (sym same) none
   halted_tells why due none (failed was same dead stay rose) = subst Told (sym same) none
 
+  -- a path that is to be drained comes to a wait
+  comes_to_one : (r : Resting) (ahead : Option ℕ) → (drains_by r ahead ≡ Draining.none → ⊥) → ahead ≡ None → ⊥
+  comes_to_one r None due none = due refl
+  comes_to_one r (Some code) due none = let clash : Some code ≡ None = none in cc
+
   -- a drain is handed on as something, and the path doesn't wait
-  drain_tells : waits ≡ false → Answers state false Drain t.recording t'.recording result → Told result
-  drain_tells none (at_once now same file even) = subst Told (sym same) none
-  drain_tells none (flushed was same live all) = absurd (let clash : false ≡ true = was in cc)
-  drain_tells none (failed was same dead stay rose) = absurd (let clash : false ≡ true = was in cc)
+  drain_tells : (answer : TableStep) → (waits ≡ false → Told answer) → waits ≡ false → Answers state false answer t.recording t'.recording result → Told result
+  drain_tells answer tells none (at_once now same file even) = subst Told (sym same) (tells none)
+  drain_tells answer tells none (flushed was same live all) = absurd (let clash : false ≡ true = was in cc)
+  drain_tells answer tells none (failed was same dead stay rose) = absurd (let clash : false ≡ true = was in cc)
 
   -- a turn of a table that nothing has stopped
   module _ (why : t.halt ≡ None) (bound : bound_of t ≡ None) where
@@ -154,9 +161,13 @@ module _ {D : Type 0} (state : D → DiskState) (path : Path) (t t' : TableView 
   pub waits_told : Told result
   waits_told = go t.halt (bound_of t) (drains t path) refl refl refl step
     where
-      go : (why bound : Option Halt) (drain : Bool) → t.halt ≡ why → bound_of t ≡ bound → drains t path ≡ drain → IsStep state (step_by t path why bound drain) t t' result → Told result
+      go : (why bound : Option Halt) (drain : Draining) → t.halt ≡ why → bound_of t ≡ bound → drains t path ≡ drain → IsStep state (step_by t path why bound drain) t t' result → Told result
       go (Some why) bound drain halts bounds drained s = halted_tells why false (waits_is (Some why) bound halts bounds) s.answer
       go None (Some why) drain halts bounds drained s = halted_tells why (nat_lt t.recording.flushed (length t.recording.history)) (waits_is None (Some why) halts bounds) s.answer
-      go None None true halts bounds drained s =
-          drain_tells (come_tells the_turn (waits ≡ true) (waits ≡ false) (both (of_path t.owed path) (is_wait the_turn) drained).1 (tells halts bounds)) s.answer
-      go None None false halts bounds drained s = turned_tells halts bounds s.answer
+      go None None (Draining.due code) halts bounds drained s =
+          drain_tells (Drain code) (λ none. none) (come_tells the_turn (waits ≡ true) (waits ≡ false)
+          (comes_to_one (of_path t.resting path) (wait_of the_turn) (λ none. let clash : Draining.due code ≡ Draining.none = sym drained ∙ none in cc)) (tells halts bounds)) s.answer
+      go None None (Draining.asked code) halts bounds drained s =
+          drain_tells Undrained (λ none. none) (come_tells the_turn (waits ≡ true) (waits ≡ false)
+          (comes_to_one (of_path t.resting path) (wait_of the_turn) (λ none. let clash : Draining.asked code ≡ Draining.none = sym drained ∙ none in cc)) (tells halts bounds)) s.answer
+      go None None Draining.none halts bounds drained s = turned_tells halts bounds s.answer

@@ -9,7 +9,7 @@ use Rattle.run_records.specs.Room.{Entries}
 use Rattle.run_journal.specs.Kept.{Log}
 use Rattle.nc_verify.specs.declared.verified.Verified.{Verified}
 use Rattle.two_path.specs.Joined.{RoomyMachine}
-use Rattle.run_table.specs.Draining.{none_owed}
+use Rattle.run_table.specs.Draining.{none_resting}
 use Rattle.run_table.specs.Kept.{TableView, opening_of}
 
 -- a new table of the pair: without records, and with no leave to make any
@@ -26,8 +26,8 @@ pub record IsBegun {D : Type 0} (verified : Verified) (t : TableView D) : Type 0
   pub halt : t.halt ≡ None
   -- it may make no record yet
   pub budget : t.budget ≡ 0
-  -- no moves were answered that a turret may not have
-  pub owed : t.owed ≡ none_owed
+  -- no turret was told to rest for a wait
+  pub resting : t.resting ≡ none_resting
 
 -- the disk in the answer of `begin`: that of the new table's journal, or that given back with a
 -- fault
@@ -49,11 +49,11 @@ recovered_table verified m entries log = record {
   recording = record { history = entries.items; room = entries.room; flushed = length entries.items; log = log };
   halt = reason_in m.machine.alarm;
   budget = 0;
-  owed = none_owed;
+  resting = none_resting;
 }
 
 -- What `prepare` does: it gives leave for n records, or, if memory runs out, leaves the budget as
--- it was. Nothing else changes but room. That there is room for the budget is part of `IsTable`
+-- it was. Nothing else changes but room, and that no turret counts as told to rest for a wait. That there is room for the budget is part of `IsTable`
 -- (Kept).
 pub record IsPrepared {D T E : Type 0} (n : ℕ) (old new : TableView D) (result : Result T E) : Type 0 where
   -- after an Ok it may make n records
@@ -72,8 +72,8 @@ pub record IsPrepared {D T E : Type 0} (n : ℕ) (old new : TableView D) (result
   pub log : new.recording.log ≡ old.recording.log
   -- the reason to stop stays
   pub halt : new.halt ≡ old.halt
-  -- the same paths have to be drained before they come to a wait
-  pub owed : new.owed ≡ old.owed
+  -- after an Ok no turret counts as told to rest for a wait
+  pub resting : OnOk result (new.resting ≡ none_resting)
 
 -- what is left of a table that is taken apart: its pair, machine, records, reason and disk
 pub record IsLeft {D : Type 0} (t : TableView D) (verified : Verified) (m : RoomyMachine) (entries : Entries) (halt : Option Halt) (disk : D) : Type 0 where

@@ -8,11 +8,10 @@ use Rattle.nc_outside.specs.declared.halt.Halt.{Halt}
 use Rattle.nc_outside.specs.declared.halt.Halt.TheVariants as halt
 use Rattle.nc_outside.specs.declared.halt.Next.{Next}
 use Rattle.nc_outside.specs.declared.halt.Next.TheVariants as next
-use Rattle.nc_outside.specs.declared.lined_move.LinedMove.{LinedMove}
 use Rattle.nc_moves.specs.declared.motion.Moves.{Moves}
 use Rattle.nc_verify.specs.declared.verified.Verified.{Verified}
 use Rattle.run_records.specs.Entries.{Entry}
-use Rattle.seat_table.specs.Turning.{moves_in}
+use Rattle.seat_table.specs.Turning.{Draining}
 use Rattle.two_path.specs.declared.turn.Turn.{Turn}
 use Rattle.two_path.specs.declared.turn.Turn.TheVariants as turn
 use Rattle.two_path.specs.Machine.{MachineView}
@@ -23,10 +22,11 @@ use Rattle.run_table.specs.declared.answer.TableStep.{TableStep}
 use Rattle.run_table.specs.declared.answer.TableStep.TheVariants as step
 use Rattle.nc_number.specs.declared.both.Both.{Both}
 use Rattle.nc_number.specs.Both.{of_path}
-use Rattle.run_table.specs.Draining.{is_wait}
+use Rattle.run_table.specs.Draining.{drains_by, rest_told, told_in_turn, wait_of}
+use Rattle.run_table.specs.declared.resting.Resting.{Resting}
+use Rattle.nc_outside.specs.declared.got.Got.{Got}
 use Rattle.run_table.specs.Kept.{TableView, tapes_in, opening_of}
-use Rattle.two_path.specs.Made.{moves_made_in}
-use Rattle.run_table.specs.Made.{if_of, shown_from, moves_made}
+use Rattle.run_table.specs.Made.{if_of, joined, told_from, told_made}
 use Rattle.run_table.specs.Since.{Since}
 use Rattle.run_table.specs.Stepping.{bound_by, is_waiting, step_of, IsStep}
 
@@ -46,8 +46,8 @@ pub record HeldView (D : Type 0) : Type 0 where
   pub halt : Option Halt
   -- how many records it may still make
   pub budget : ℕ
-  -- which paths have to be drained before they come to a wait
-  pub owed : Both Bool
+  -- whether the turret of each path rests for the wait that the path comes to
+  pub resting : Both Resting
   -- whether the moves of its last record were answered
   pub shown : Bool
 
@@ -62,7 +62,7 @@ held_of t shown = record {
   file = t.recording.log.file;
   halt = t.halt;
   budget = t.budget;
-  owed = t.owed;
+  resting = t.resting;
   shown = shown;
 }
 
@@ -75,44 +75,50 @@ bound_at h = bound_by (length h.history) h.verified.settings.records h.budget
 abbrev pub waits_at : {D : Type 0} → HeldView D → Path → Bool
 waits_at h path = (is_none h.halt && is_none (bound_at h)) && is_waiting path h.machine
 
--- whether the path's next turn brings it to a wait, it has to be drained first, nothing has stopped
--- the table, and neither a full journal nor a spent budget does
-abbrev pub drains_at : {D : Type 0} → HeldView D → Path → Bool
-drains_at h path =
-    (is_none h.halt && is_none (bound_at h)) && (of_path h.owed path && is_wait (turn_of (tapes_in h.verified) path h.machine).turn)
+-- whether the path is to be drained: its next turn brings it to a wait for which its turret does not
+-- rest, nothing has stopped the table, and neither a full journal nor a spent budget does
+abbrev pub drains_at : {D : Type 0} → HeldView D → Path → Draining
+drains_at h path = if is_none h.halt && is_none (bound_at h)
+    then drains_by (of_path h.resting path) (wait_of (turn_of (tapes_in h.verified) path h.machine).turn)
+    else Draining.none
 
 -- the table is what has come of the one that was opened; if none was, no table is
 abbrev pub IsOf : {D : Type 0} → (D → DiskState) → Option (TableView D) → TableView D → Type 0
 IsOf state None t = ⊥
 IsOf state (Some start) t = Since state start t
 
--- the moves of each record of the path; none for the last record of the history, whose moves were
--- not answered
-abbrev pub lost_from : Tapes → MachineView → Path → List Entry → List (List LinedMove)
+-- what each record of the path told its turret; nothing for the last record of the history, which
+-- was not answered
+abbrev pub lost_from : Tapes → MachineView → Path → List Entry → List (List Got)
 lost_from tapes m path [] = []
 lost_from tapes m path (e ∷ []) = if_of path e []
 lost_from tapes m path (e ∷ f ∷ entries) =
-    if_of path e (moves_made_in (turn_of_entry tapes e m)) ++ lost_from tapes (behind_entry tapes e m) path (f ∷ entries)
+    if_of path e (told_in_turn (turn_of_entry tapes e m)) ++ lost_from tapes (behind_entry tapes e m) path (f ∷ entries)
 
--- the moves of each record of the path that were answered: of all records (true), or of all but the
--- last one of the history (false)
-abbrev pub answered_from : Tapes → MachineView → Path → Bool → List Entry → List (List LinedMove)
-answered_from tapes m path true entries = shown_from tapes m path entries
+-- what each record of the path told its turret, of all records (true), or of all but the last one of
+-- the history, which was not answered (false)
+abbrev pub answered_from : Tapes → MachineView → Path → Bool → List Entry → List (List Got)
+answered_from tapes m path true entries = told_from tapes m path entries
 answered_from tapes m path false entries = lost_from tapes m path entries
 
--- the path's records since the opening, of each the moves that its step answered
-abbrev pub records_since : {D : Type 0} → Option (TableView D) → HeldView D → Path → List (List LinedMove)
+-- the path's records since the opening, of each what it told the turret of the path
+abbrev pub records_since : {D : Type 0} → Option (TableView D) → HeldView D → Path → List (List Got)
 records_since None h path = []
 records_since (Some start) h path =
     answered_from (tapes_in start.verified) (fold (tapes_in start.verified) (opening_of start.verified) start.recording.history)
     path h.shown (drop (length start.recording.history) h.history)
 
--- The moves that were answered since the opening are those of the records that the disk has: a
--- record that pends, or that was lost, shows none. Without an opening this never holds.
+-- What was told the turret of the path since the opening: record by record, and then the rest before
+-- a wait that is not recorded yet, if it was told one.
+abbrev pub told_since : {D : Type 0} → Option (TableView D) → HeldView D → Path → List Got
+told_since opened h path = joined (records_since opened h path) ++ rest_told (of_path h.resting path)
+
+-- What the records since the opening told is what those tell that the disk has: a record that pends,
+-- or that was lost, told nothing. Without an opening this never holds.
 abbrev pub ShowsFlushed : {D : Type 0} → Option (TableView D) → HeldView D → TableView D → Type 0
 ShowsFlushed None h t = ⊥
-ShowsFlushed (Some start) h t = (path : Path) → moves_in (records_since (Some start) h path)
-    ≡ moves_made t.verified path (length start.recording.history) t.recording.flushed t.recording.history
+ShowsFlushed (Some start) h t = (path : Path) → joined (records_since (Some start) h path)
+    ≡ told_made t.verified path (length start.recording.history) t.recording.flushed t.recording.history
 
 -- A table that may be held under the opening: it is of the opening, and what it showed since is on
 -- the disk.
@@ -153,7 +159,8 @@ next_of_turn turn.Edited = Some next.Silent
 -- a step as it is handed on to the worker of its path; None if the path waits
 abbrev pub next_of : TableStep → Option Next
 next_of (step.Turned turn) = next_of_turn turn
-next_of step.Drain = Some next.Drain
+next_of (step.Drain code) = Some (next.Drain code)
+next_of step.Undrained = Some next.Silent
 next_of step.DiskFault = Some (next.Halted halt.Disk)
 next_of (step.Halted why) = Some (next.Halted why)
 
@@ -200,12 +207,14 @@ pub record IsTaken {D : Type 0} (held : HeldView D) (t : TableView D) : Type 0 w
   pub file : t.recording.log.file ≡ held.file
   -- it may make as many records more
   pub budget : t.budget ≡ held.budget
+  -- the same turrets rest for a wait
+  pub resting : t.resting ≡ held.resting
   -- the reason is the same, unless it is a turret's fault
   pub halt : t.halt ≡ without_turret held.halt
 
--- A table that was held may be held again under its opening, with the same answered moves since.
+-- A table that was held may be held again under its opening, which told the same since.
 pub record MayHoldAgain {D : Type 0} (state : D → DiskState) (opened : Option (TableView D)) (held : HeldView D) (t : TableView D) : Type 0 where
   -- the table may be held under the opening
   pub may : MayHold state opened t
-  -- the answered moves since the opening are those of before
-  pub records : (path : Path) → records_since opened (held_of t true) path ≡ records_since opened held path
+  -- what was told since the opening is the same
+  pub told : (path : Path) → told_since opened (held_of t true) path ≡ told_since opened held path

@@ -1,6 +1,10 @@
 -- What callers see of a table, and what is true of it. The history and the journal in it are in
 -- Recording.
-use Rattle.std.specs.Prelude.{◌≡◌, ℕ, ◌+◌, ◌≤◌, ◌<◌, false, length, map, Option, Some, None, IsTrue, Bool}
+use Rattle.std.specs.Prelude.{◌≡◌, ◌≢◌, ℕ, ◌+◌, ◌≤◌, ◌<◌, false, length, map, Option, Some, None, IsTrue}
+use Rattle.nc_number.specs.Both.{of_path}
+use Rattle.nc_number.specs.declared.path.Path.{Path}
+use Rattle.run_table.specs.declared.resting.Resting.{Resting}
+use Rattle.run_table.specs.Draining.{StandsAsTold}
 use Rattle.disk_model.specs.Device.{DiskState}
 use Rattle.nc_outside.specs.declared.halt.Halt.{Halt}
 use Rattle.nc_outside.specs.declared.halt.Halt.TheVariants.{Alarm, Disk, Turret, Full, Budget}
@@ -32,8 +36,8 @@ pub record TableView (D : Type 0) : Type 0 where
   pub halt : Option Halt
   -- how many records it may still make
   pub budget : ℕ
-  -- which paths have to be drained before they come to a wait
-  pub owed : Both Bool
+  -- whether the turret of each path rests for the wait that the path comes to
+  pub resting : Both Resting
 
 -- the blocks of both tapes of the pair
 abbrev pub tapes_in : Verified → Tapes
@@ -85,5 +89,7 @@ pub record IsTable {D : Type 0} (state : D → DiskState) (t : TableView D) : Ty
   pub room : 1 ≤ t.budget → length t.recording.history + t.budget ≤ t.recording.room
   -- the reason that is kept holds, or the table may go on
   pub reason : HasReason t.machine t.recording t.halt
+  -- unless the disk has failed, a path whose turret was told to rest for a wait stands before that
+  pub rests : t.halt ≢ Some Disk → (path : Path) → StandsAsTold t.verified t.machine path (of_path t.resting path)
   -- the journal is that of some header whose texts are the pair's
   pub journaled : (header : Header) × IsVerdictOf header t.verified × IsJournaled state header t.recording

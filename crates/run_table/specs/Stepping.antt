@@ -15,9 +15,10 @@ use Rattle.two_path.specs.Machine.{MachineView}
 use Rattle.two_path.specs.Turns.{Tapes, TurnResult, turn_of, entry_of}
 use Rattle.two_path.specs.Histories.{list_of}
 use Rattle.run_table.specs.declared.answer.TableStep.{TableStep}
-use Rattle.run_table.specs.declared.answer.TableStep.TheVariants.{Turned, Drain, DiskFault, Halted}
+use Rattle.run_table.specs.declared.answer.TableStep.TheVariants.{Turned, Drain, Undrained, DiskFault, Halted}
 use Rattle.run_table.specs.Recording.{RecordingView, Records}
-use Rattle.run_table.specs.Draining.{is_wait}
+use Rattle.seat_table.specs.Turning.{Draining}
+use Rattle.run_table.specs.Draining.{drains_by, wait_of}
 use Rattle.run_table.specs.Kept.{TableView, tapes_in}
 
 -- whether a turn shows something to the outside: moves, that the path comes to a wait, that it goes
@@ -78,11 +79,12 @@ turn_step t result made = record {
   due = is_due t.recording made result.turn;
 }
 
--- whether the path's next turn brings it to a wait, and it has to be drained first
-abbrev pub drains : {D : Type 0} → TableView D → Path → Bool
-drains t path = of_path t.owed path && is_wait (turn_of (tapes_in t.verified) path t.machine).turn
+-- whether the path is to be drained: its next turn brings it to a wait for which its turret does not
+-- rest
+abbrev pub drains : {D : Type 0} → TableView D → Path → Draining
+drains t path = drains_by (of_path t.resting path) (wait_of (turn_of (tapes_in t.verified) path t.machine).turn)
 
--- a step that does nothing but answer so: the table keeps a reason, or the path has to be drained
+-- a step without a turn that answers so: the table keeps a reason, or the path has to be drained
 abbrev pub idle_step : {D : Type 0} → TableView D → TableStep → StepResult
 idle_step t answer = record { answer = answer; machine = t.machine; made = []; due = false }
 
@@ -109,8 +111,9 @@ step_without_drain t path None None = turn_by t path
 
 -- the step by the table's reason, its bound, and whether the path has to be drained: only a path
 -- whose turn would come is drained
-abbrev pub step_by : {D : Type 0} → TableView D → Path → Option Halt → Option Halt → Bool → StepResult
-step_by t path None None true = idle_step t Drain
+abbrev pub step_by : {D : Type 0} → TableView D → Path → Option Halt → Option Halt → Draining → StepResult
+step_by t path None None (Draining.due code) = idle_step t (Drain code)
+step_by t path None None (Draining.asked code) = idle_step t Undrained
 step_by t path why bound drain = step_without_drain t path why bound
 
 -- what a step of the path comes to: a drain, its turn, or nothing
@@ -135,7 +138,8 @@ pub data Answers {D : Type 0} (state : D → DiskState) (due : Bool) (answer : T
 abbrev pub reason_of : TableStep → Option Halt
 reason_of (Turned (turn.Alarm alarm)) = Some (halt.Alarm alarm)
 reason_of (Turned _) = None
-reason_of Drain = None
+reason_of (Drain code) = None
+reason_of Undrained = None
 reason_of DiskFault = Some halt.Disk
 reason_of (Halted why) = None
 

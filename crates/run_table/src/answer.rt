@@ -15,9 +15,11 @@ use two_path::{Machine, Turn, TurnAnswer};
 pub enum TableStep {
     /// A turn of the path. What it shows is on the disk.
     Turned(Turn),
-    /// The path comes to a wait, and its turret may not have yet all moves that were answered to
-    /// it. There was no turn.
-    Drain,
+    /// The path comes to the wait of this code, and its turret is to rest before. There was no turn.
+    Drain(u16),
+    /// The path's turret was told to rest before a wait, and it is not known that it does. There was
+    /// no turn.
+    Undrained,
     /// The disk failed. What the path did is not shown.
     DiskFault,
     /// The run has stopped, or must stop here. There was no turn.
@@ -29,8 +31,11 @@ pub enum TableStep {
 pub enum StepAnswer {
     /// A turn of the path. What it shows is on the disk.
     Turned(TurnAnswer),
-    /// The path is to be drained, and there was no turn.
-    Drain,
+    /// The path comes to the wait of this code, and its turret is to rest before. There was no turn.
+    Drain(u16),
+    /// The path's turret was told to rest before a wait, and it is not known that it does. There was
+    /// no turn.
+    Undrained,
     /// The disk failed. What the path did is not shown.
     DiskFault,
     /// The run has stopped, or must stop here. There was no turn.
@@ -45,7 +50,8 @@ impl TableStep {
     {
         match answer {
             StepAnswer::Turned(answer) => TableStep::Turned(Turn::of(answer, moves)),
-            StepAnswer::Drain => TableStep::Drain,
+            StepAnswer::Drain(code) => TableStep::Drain(code),
+            StepAnswer::Undrained => TableStep::Undrained,
             StepAnswer::DiskFault => TableStep::DiskFault,
             StepAnswer::Halted(why) => TableStep::Halted(why),
         }

@@ -45,7 +45,8 @@ pub(crate) fn next_of(step: StepAnswer, moves: MoveList) -> Option<Next>
 {
     match step {
         StepAnswer::Turned(answer) => next_of_turn(answer, moves),
-        StepAnswer::Drain => Some(Next::Drain),
+        StepAnswer::Drain(code) => Some(Next::Drain(code)),
+        StepAnswer::Undrained => Some(Next::Silent),
         StepAnswer::DiskFault => Some(Next::Halted(Halt::Disk)),
         StepAnswer::Halted(why) => Some(Next::Halted(why)),
     }
@@ -58,7 +59,8 @@ fn is_lost(step: &StepAnswer, before: usize, after: usize) -> bool
 {
     match step {
         StepAnswer::DiskFault => before != after,
-        StepAnswer::Turned(_) | StepAnswer::Drain | StepAnswer::Halted(_) => false,
+        StepAnswer::Turned(_) | StepAnswer::Drain(_) => false,
+        StepAnswer::Undrained | StepAnswer::Halted(_) => false,
     }
 }
 

@@ -5,10 +5,11 @@ ghost use Rattle.nc_outside.specs.Calls.{IsOfTurret};
 ghost use Rattle.nc_outside.specs.declared.halt.Halt.{Halt as AnyHalt};
 ghost use Rattle.nc_outside.specs.declared.halt.Halt.TheVariants as halt;
 ghost use Rattle.nc_outside.specs.declared.halt.Next.TheVariants as next;
-ghost use Rattle.seat_table.specs.Turning.{Answers, AsksDrain, first_reason};
-ghost use Rattle.run_table.specs.Draining.{with_owed};
+ghost use Rattle.seat_table.specs.Turning.{Answers, AsksDrain, first_reason, once_drained};
+ghost use Rattle.run_table.specs.Draining.{with_drained, StandsAsTold};
+ghost use Rattle.nc_number.specs.Both.{of_path};
 ghost use Rattle.run_table.specs.Ending.{HasEnded, HasNotEnded, KeepsRest};
-ghost use Rattle.run_table.specs.Holding.{held_of, waits_at, drains_at, IsOf, ShowsFlushed, MayHold, MayHoldAgain, HasStepped, IsTaken, records_since};
+ghost use Rattle.run_table.specs.Holding.{held_of, waits_at, drains_at, IsOf, ShowsFlushed, MayHold, MayHoldAgain, HasStepped, IsTaken, told_since};
 
 use crate::handing::{is_still_shown, next_of};
 use crate::table::Table;
@@ -60,8 +61,8 @@ impl<D: Disk, O: Opening<D>> Model for Held<D, O> {
 }
 
 impl<D: Disk, O: Opening<D>> Held<D, O> {
-    /// Holds the table under this opening. All moves that were answered since the opening must be
-    /// those of records that are on the disk.
+    /// Holds the table under this opening. What its records since the opening told the turrets must be
+    /// what those tell that are on the disk.
     pub fn new(table: Table<D>) -> Held<D, O>
         requires { MayHold D.state O.opened table }
         ensures { result ≡ held_of table true }
@@ -82,7 +83,7 @@ impl<D: Disk, O: Opening<D>> Held<D, O> {
         ensures ends { IfSome result (λ end. HasEnded self.new end) }
         ensures goes_on { IfNone result (HasNotEnded self.new) }
         ensures rest { KeepsRest self.old self.new result }
-        ensures same { (p : Path) → records_since O.opened self.new p ≡ records_since O.opened self.old p }
+        ensures same { (p : Path) → told_since O.opened self.new p ≡ told_since O.opened self.old p }
     {
         self.table.ended()
     }
@@ -92,6 +93,8 @@ impl<D: Disk, O: Opening<D>> Held<D, O> {
     pub fn into_table(self) -> Table<D>
         ensures of { IsOf D.state O.opened result }
         ensures taken { IsTaken self result }
+        ensures stands { result.halt ≢ Some halt.Disk
+            → (path : Path) → StandsAsTold result.verified result.machine path (of_path result.resting path) }
         ensures shown { ShowsFlushed O.opened self result }
         ensures again { result.halt ≢ Some halt.Disk → MayHoldAgain D.state O.opened self result }
     {
@@ -106,9 +109,9 @@ impl<D: Disk, O: Opening<D>> Held<D, O> {
 }
 
 impl<D: Disk, O: Opening<D>> Turns for Held<D, O> {
-    ghost use Rattle.run_table.specs.Holding.{records_since, waits_at, drains_at};
+    ghost use Rattle.run_table.specs.Holding.{told_since, waits_at, drains_at};
 
-    ghost records = { λ h path. records_since O.opened h path };
+    ghost told = { λ h path. told_since O.opened h path };
 
     ghost reason = { λ h. h.halt };
 
@@ -125,14 +128,14 @@ impl<D: Disk, O: Opening<D>> Turns for Held<D, O> {
     fn turn_step(&mut self, path: Path) -> Option<Next>
         ensures step { HasStepped D.state path self.old self.new result }
         ensures answer { MatchOption result (self.new ≡ self.old) (λ next. Answers
-            (records_since O.opened self.old path) next (records_since O.opened self.new path)) }
+            (told_since O.opened self.old path) next (told_since O.opened self.new path)) }
         ensures others { (p : Path) → p ≢ path
-            → records_since O.opened self.new p ≡ records_since O.opened self.old p }
+            → told_since O.opened self.new p ≡ told_since O.opened self.old p }
         ensures waits { MatchOption result (waits_at self.old path ≡ true) (λ _. waits_at self.old path ≡ false) }
         ensures drains { AsksDrain (drains_at self.old path) result (drains_at self.new path) }
         ensures halted { (why : AnyHalt) → self.old.halt ≡ Some why → (result ≡ Some (next.Halted why))
             × (self.new.halt ≡ Some why)
-            × ((p : Path) → records_since O.opened self.new p ≡ records_since O.opened self.old p) }
+            × ((p : Path) → told_since O.opened self.new p ≡ told_since O.opened self.old p) }
     {
         let before = self.table.count();
         let mut moves = MoveList::empty();
@@ -144,9 +147,9 @@ impl<D: Disk, O: Opening<D>> Turns for Held<D, O> {
     }
 
     fn drained(&mut self, path: Path)
-        ensures new { self.new ≡ record self.old { owed = with_owed path false self.old.owed } }
-        ensures drained { drains_at self.new path ≡ false }
-        ensures records { (p : Path) → records_since O.opened self.new p ≡ records_since O.opened self.old p }
+        ensures new { self.new ≡ record self.old { resting = with_drained path self.old.resting } }
+        ensures drained { drains_at self.new path ≡ once_drained (drains_at self.old path) }
+        ensures told { (p : Path) → told_since O.opened self.new p ≡ told_since O.opened self.old p }
         ensures reason { self.new.halt ≡ self.old.halt }
     {
         self.table.drained(path);
@@ -155,7 +158,7 @@ impl<D: Disk, O: Opening<D>> Turns for Held<D, O> {
     fn halt(&mut self, why: Halt)
         requires { IsOfTurret why }
         ensures new { self.new ≡ record self.old { halt = first_reason self.old.halt why } }
-        ensures records { (p : Path) → records_since O.opened self.new p ≡ records_since O.opened self.old p }
+        ensures told { (p : Path) → told_since O.opened self.new p ≡ told_since O.opened self.old p }
         ensures reason { self.new.halt ≡ first_reason self.old.halt why }
     {
         self.table.halt(why);

@@ -14,7 +14,7 @@ ghost use Rattle.nc_outside.specs.declared.reason.Reason.{Reason};
 ghost use Rattle.run_table.specs.Ending.{HasEnded};
 ghost use Rattle.run_table.specs.Holding.{HeldView, MayHold, IsTaken};
 ghost use Rattle.run_table.specs.Kept.{TableView, tapes_in, opening_of};
-ghost use Rattle.run_table.specs.Made.{moves_made};
+ghost use Rattle.run_table.specs.Made.{moves_made, told_made};
 ghost use Rattle.run_table.specs.Running.{EndsBy};
 ghost use Rattle.run_table.specs.Since.{Since};
 ghost use Rattle.run_table.specs.Stepping.{GoesOn};
@@ -43,11 +43,12 @@ pub fn who_is_waited_for_goes_on()
     kept_paths_are_not_stuck();
 }
 
-/// The records of a path make seven moves each at most. On this number rests the law of lathe_top
-/// `a_session_hands_eight_moves_a_record_at_most`.
+/// The records of a path make seven moves each at most, and tell its turret seven things at most.
 pub fn a_record_makes_seven_moves_at_most()
-    ensures { (pair : Verified) (path : Path) (from upto : ℕ) (history : List Entry)
+    ensures moves { (pair : Verified) (path : Path) (from upto : ℕ) (history : List Entry)
         → length (moves_made pair path from upto history) ≤ 7 * (upto - from) }
+    ensures tells { (pair : Verified) (path : Path) (from upto : ℕ) (history : List Entry)
+        → length (told_made pair path from upto history) ≤ 7 * (upto - from) }
 {}
 
 /// Each table may be held with itself as the opening.

@@ -13,12 +13,14 @@ mod handing;
 mod held;
 mod laws;
 mod recording;
+mod resting;
 mod stepping;
 mod table;
 
 pub use answer::{Parts, StepAnswer, TableStep};
 pub use held::{Held, Opening};
 pub use laws::{a_record_makes_seven_moves_at_most, a_table_opens_itself, a_taken_table_ended_so};
+pub use resting::Resting;
 pub use table::Table;
 
 // For users of the library: laws that no crate of the program takes.

@@ -48,7 +48,8 @@ pub(crate) fn reason_of(answer: &StepAnswer, moves: &MoveList) -> Option<Halt>
     let _ = moves;
     match answer {
         StepAnswer::Turned(TurnAnswer::Alarm { alarm }) => Some(Halt::Alarm(*alarm)),
-        StepAnswer::Turned(_) | StepAnswer::Drain | StepAnswer::Halted(_) => None,
+        StepAnswer::Turned(_) | StepAnswer::Drain(_) => None,
+        StepAnswer::Undrained | StepAnswer::Halted(_) => None,
         StepAnswer::DiskFault => Some(Halt::Disk),
     }
 }

@@ -13,12 +13,13 @@ ghost use Rattle.run_journal.specs.Beginning.{BeginsRun};
 ghost use Rattle.seat_table.specs.Turning.{first_reason};
 ghost use Rattle.two_path.specs.declared.turn.Turn.TheVariants as turn;
 ghost use Rattle.two_path.specs.Histories.{IsKept};
+ghost use Rattle.two_path.specs.Turns.{turn_of};
 ghost use Rattle.run_table.specs.declared.answer.TableStep.TheVariants as step;
 ghost use Rattle.run_table.specs.Apart.{moves_of_step, step_with};
 ghost use Rattle.run_table.specs.Recording.{IsJournaled};
 ghost use Rattle.run_table.specs.Kept.{tapes_in, opening_of, IsVerdictOf, IsTable};
 ghost use Rattle.run_table.specs.Stepping.{bound_of, waits_in, drains, step_of, IsStep, GoesOn};
-ghost use Rattle.run_table.specs.Draining.{with_owed, owed_behind};
+ghost use Rattle.run_table.specs.Draining.{drain_answer, resting_behind, with_drained, wait_of, FitsRest};
 ghost use Rattle.run_table.specs.Begun.{IsBegun, disk_in, recovered_table, IsPrepared, IsLeft};
 ghost use Rattle.run_table.specs.Recovered.{IsRecovered, HoldsAll};
 ghost use Rattle.run_table.specs.Ending.{end_ahead, Asks};
@@ -26,9 +27,12 @@ ghost use Rattle.run_table.specs.Holding.{without_turret};
 ghost use Rattle.run_table.specs.Since.{Since};
 
 use crate::answer::{Parts, StepAnswer, TableStep};
-use crate::draining::{comes_to_wait, flow_of, none_owed, owed_behind, with_owed};
+use crate::draining::{
+    drain_before, flow_of, none_resting, resting_behind, wait_ahead, with_drained,
+};
 use crate::laws::who_is_waited_for_goes_on;
 use crate::recording::Recording;
+use crate::resting::Resting;
 use crate::stepping::{flush_before, is_waiting, reason_of, take};
 use disk_model::Disk;
 use gate_file::GateFault;
@@ -60,8 +64,8 @@ pub struct Table<D: Disk> {
     halt: Option<Halt>,
     /// How many records it may still make.
     budget: u32,
-    /// Whether moves were answered to each path that its turret may not have yet.
-    owed: Both<bool>,
+    /// Whether the turret of each path rests for the wait that the path comes to.
+    resting: Both<Resting>,
 }
 
 impl<D: Disk> Model for Table<D> {
@@ -80,7 +84,7 @@ impl<D: Disk> Model for Table<D> {
       recording = t.recording;
       halt = t.halt;
       budget = t.budget;
-      owed = t.owed;
+      resting = t.resting;
     } };
 
     ghost invariant = { λ t. IsTable D.state (record {
@@ -90,7 +94,7 @@ impl<D: Disk> Model for Table<D> {
       recording = t.recording;
       halt = t.halt;
       budget = t.budget;
-      owed = t.owed;
+      resting = t.resting;
     }) };
 }
 
@@ -155,18 +159,20 @@ impl<D: Disk> Table<D> {
             recording: Recording::over(entries, journal),
             halt,
             budget: 0,
-            owed: none_owed(),
+            resting: none_resting(),
         }
     }
 
     /// Makes room for `n` records more, which take no memory then, and gives leave for so many
-    /// until the next call. If memory runs out, the leave is what it was.
+    /// until the next call. Then no turret counts as told to rest for a wait. If memory runs out, the
+    /// leave is what it was.
     pub fn prepare(&mut self, n: u32) -> Result<(), NoMemory>
         ensures { IsPrepared n self.old self.new result }
     {
         self.machine.reserve(n as usize)?;
         self.recording.reserve(n as usize)?;
         self.budget = n;
+        self.resting = none_resting();
         Ok(())
     }
 
@@ -184,13 +190,21 @@ impl<D: Disk> Table<D> {
         None
     }
 
-    /// Whether the path's next turn would bring it to a wait, and it has to be drained first.
-    fn drains(&self, path: Path) -> bool
-        ensures { result ≡ drains self.now path }
+    /// The code of the wait to which the path's next turn would bring it, if it would.
+    fn wait_ahead(&self, path: Path) -> Option<u16>
+        ensures { result ≡ wait_of (turn_of (tapes_in self.now.verified) path self.now.machine).turn }
     {
         control_goes_as_the_flow_orders();
         waits_and_ends_stop_a_path();
-        *self.owed.of(path) && comes_to_wait(&self.machine, flow_of(&self.verified, path), path)
+        wait_ahead(&self.machine, flow_of(&self.verified, path), path)
+    }
+
+    /// What is answered to the path instead of its next turn, if that would bring it to a wait for
+    /// which its turret does not rest.
+    fn drain_due(&self, path: Path) -> Option<StepAnswer>
+        ensures { result ≡ drain_answer (drains self.now path) }
+    {
+        drain_before(*self.resting.of(path), self.wait_ahead(path))
     }
 
     /// Whether the path waits, and nothing has stopped the table: it has no reason, its journal is
@@ -210,13 +224,15 @@ impl<D: Disk> Table<D> {
     /// and at 64 that pend. If the disk fails in that, the answer is `DiskFault`, and
     /// `Halted(Disk)` from then on.
     ///
-    /// The answer is `Drain`, and nothing is done, if the turn would bring the path to a wait, and
-    /// moves were answered to it since it was last drained.
+    /// The answer is `Drain`, and there is no turn, if the turn would bring the path to a wait, once
+    /// for each wait; until the path was drained the answer is `Undrained` then. So a wait is
+    /// recorded only while the path's turret rests for it.
     pub fn step_into(&mut self, path: Path, moves: &mut MoveList) -> StepAnswer
         ensures step { IsStep D.state (step_of self.old path) self.old self.new (step_with result moves.new) }
         ensures apart { moves_of_step (step_with result moves.new) ≡ moves.new }
         ensures since { Since D.state self.old self.new }
-        ensures owed { self.new.owed ≡ owed_behind path (step_with result moves.new) self.old.owed }
+        ensures resting { self.new.resting ≡ resting_behind path (step_with result moves.new) self.old.resting }
+        ensures rests { FitsRest (of_path self.old.resting path) (step_with result moves.new) }
         // Where the path waits, the other one has a turn of a block.
         ensures goes_on { (code : ℕ) → step_with result moves.new ≡ step.Turned (turn.Waiting code)
             → GoesOn (tapes_in self.new.verified) (other_of path) self.new.machine }
@@ -224,6 +240,8 @@ impl<D: Disk> Table<D> {
         each_event_keeps_the_history();
         histories_are_runs();
         who_is_waited_for_goes_on();
+        control_goes_as_the_flow_orders();
+        waits_and_ends_stop_a_path();
         moves.clear();
         if let Some(why) = self.halt {
             return StepAnswer::Halted(why);
@@ -233,15 +251,16 @@ impl<D: Disk> Table<D> {
             self.halt = reason_of(&answer, moves);
             return answer;
         }
-        if self.drains(path) {
-            return StepAnswer::Drain;
+        if let Some(answer) = self.drain_due(path) {
+            self.resting = resting_behind(self.resting, path, &answer, moves);
+            return answer;
         }
         let turned = self
             .machine
             .turn_into(self.verified.left(), self.verified.right(), path, moves);
         let answer = take(&mut self.recording, &mut self.budget, turned, moves);
         self.halt = reason_of(&answer, moves);
-        self.owed = owed_behind(self.owed, path, &answer, moves);
+        self.resting = resting_behind(self.resting, path, &answer, moves);
         answer
     }
 
@@ -250,7 +269,8 @@ impl<D: Disk> Table<D> {
     pub fn step(&mut self, path: Path) -> TableStep
         ensures step { IsStep D.state (step_of self.old path) self.old self.new result }
         ensures since { Since D.state self.old self.new }
-        ensures owed { self.new.owed ≡ owed_behind path result self.old.owed }
+        ensures resting { self.new.resting ≡ resting_behind path result self.old.resting }
+        ensures rests { FitsRest (of_path self.old.resting path) result }
         // Where the path waits, the other one has a turn of a block.
         ensures goes_on { (code : ℕ) → result ≡ step.Turned (turn.Waiting code)
             → GoesOn (tapes_in self.new.verified) (other_of path) self.new.machine }
@@ -260,11 +280,11 @@ impl<D: Disk> Table<D> {
         TableStep::of(answer, moves)
     }
 
-    /// Tells the table that the path's turret has all moves that were answered to the path.
+    /// Tells the table that the path's turret has made all that was answered to the path, and rests.
     pub fn drained(&mut self, path: Path)
-        ensures { self.new ≡ record self.old { owed = with_owed path false self.old.owed } }
+        ensures { self.new ≡ record self.old { resting = with_drained path self.old.resting } }
     {
-        self.owed = with_owed(self.owed, path, false);
+        self.resting = with_drained(self.resting, path);
     }
 
     /// The end of a run whose disk has not failed, and of which records may pend: an alarm, the
@@ -314,7 +334,8 @@ impl<D: Disk> Table<D> {
 
     /// Forgets the reason to stop if it is a turret's fault.
     pub(crate) fn drop_turret(&mut self)
-        ensures { self.new ≡ record self.old { halt = without_turret self.old.halt } }
+        ensures new { self.new ≡ record self.old { halt = without_turret self.old.halt } }
+        ensures table { IsTable D.state self.new }
     {
         if let Some(Halt::Turret(_)) = self.halt {
             self.halt = None;
@@ -344,7 +365,7 @@ impl<D: Disk> Table<D> {
             recording,
             halt,
             budget: _,
-            owed: _,
+            resting: _,
         } = self;
         let (entries, disk) = recording.into_parts();
         Parts {

@@ -1,6 +1,6 @@
 -- Each step on the words of a table keeps its rule: to take the turn and to give it back, to count,
 -- to ask for a wake, to note, to cut a seat off and to join seats. At the end the table has the
--- records that its seats list. The proofs of taking.rt and seats.rt (src) rest on it.
+-- tellings that its seats list. The proofs of taking.rt and seats.rt (src) rest on it.
 use Rattle.std.proofs.Common.{◌≡◌, ◌≢◌, ◌⊎◌, ℕ, zero, suc, ◌<◌, eqb, Bool, true, false, ◌||◌, ◌&&◌, not, if◌then◌else◌, List, [], ◌∷◌, ◌++◌, length, get_or, set, sym, refl, ap, ◌∙◌, subst, ⊎_elim, inl, inr, arith, Option, Some, None, length-set, get_or-set_same, get_or-set_other, true≢false}
 use mathlib.Core.Option.{some, some-ne-none, some-injective}
 use mathlib.Core.Option as maybe
@@ -15,7 +15,7 @@ use Rattle.nc_number.specs.Both.{of_path}
 use Rattle.nc_number.proofs.Bools.{either as one_of, both as both_hold}
 use Rattle.nc_outside.specs.declared.halt.Halt.{Halt}
 use Rattle.nc_outside.specs.declared.stepper.Call.{Call}
-use Rattle.seat_table.specs.Turning.{Records}
+use Rattle.seat_table.specs.Turning.{Tellings}
 use Rattle.seat_table.specs.declared.knowing.Rights.{Rights}
 use Rattle.seat_table.specs.declared.knowing.Knows.{Knows}
 use Rattle.seat_table.specs.declared.knowing.Stop.{Stop}
@@ -70,8 +70,8 @@ stops_listed : (stop : Option Stop) → AreStops stop (stop_list stop)
 stops_listed None = tt
 stops_listed (Some s) = (refl, tt)
 
--- The steps on the words of a table with these records and reasons, and its rule.
-module _ {C : Type 0} (records : C → Path → Records) (reason : C → Option Halt) where
+-- The steps on the words of a table with these tellings and reasons, and its rule.
+module _ {C : Type 0} (told : C → Path → Tellings) (reason : C → Option Halt) where
   -- A state of the words, the slot, and what all seats know.
   abbrev St : Type 0
   St = State (Option C) Knows
@@ -82,11 +82,11 @@ module _ {C : Type 0} (records : C → Path → Records) (reason : C → Option 
 
   -- The rule of the table.
   abbrev Rule : St → Type 0
-  Rule = Kept records reason
+  Rule = Kept told reason
 
-  -- The table in its slot, with these records, halted or not.
+  -- The table in its slot, with these tellings, halted or not.
   abbrev Home : List (maybe.Option (Option C)) → Lists → Option Stop → Type 0
-  Home homes now stop = (c : C) × (get_elem? homes 0 ≡ some (some (Some c))) × ((p : Path) → records c p ≡ of_path now p) × (stop_of records reason c ≡ stop)
+  Home homes now stop = (c : C) × (get_elem? homes 0 ≡ some (some (Some c))) × ((p : Path) → told c p ≡ of_path now p) × (stop_of told reason c ≡ stop)
 
   -- One seat has the turn.
   abbrev Away : List Knows → ℕ → Type 0
@@ -107,25 +107,25 @@ module _ {C : Type 0} (records : C → Path → Records) (reason : C → Option 
     away = λ z. away (subst (λ (k : ℕ). 0 < k) e z);
   }
 
-  -- The list of a path is its records.
-  list_is : (c : C) (p : Path) → of_path (lists_of records c) p ≡ records c p
+  -- The list of a path is its tellings.
+  list_is : (c : C) (p : Path) → of_path (lists_of told c) p ≡ told c p
   list_is c One = refl
   list_is c Two = refl
 
-  -- Tables with the same records of each path have the same lists.
-  same_lists : (c : C) (now : Lists) → ((p : Path) → records c p ≡ of_path now p) → lists_of records c ≡ now
+  -- Tables with the same tellings of each path have the same lists.
+  same_lists : (c : C) (now : Lists) → ((p : Path) → told c p ≡ of_path now p) → lists_of told c ≡ now
   same_lists c now e = λ i. record { one = e One i; two = e Two i }
 
   -- To take the turn keeps the rule.
   pub takes_turn : (slots id : ℕ) (m : Sat) → m.0.busy ≡ false → (r : Right) → has r m.0.rights ≡ true
-      → Allows Rule slots id m 0 (λ n. either (eqb n 0) 1 n) (took records reason (step slots 0 0 1 maybe.none) m)
+      → Allows Rule slots id m 0 (λ n. either (eqb n 0) 1 n) (took told reason (step slots 0 0 1 maybe.none) m)
   takes_turn slots id m rests r may s k long at small = exchanged (get_or s.words 0 0) 0 1 Goal hit miss
     where
       Goal : ℕ → Type 0
-      Goal n = (w : Knows) × (a : Act (Option C)) × Valid s.homes m.1 a × Rule (stepped s 0 n id m.1 w a) × took records reason (step slots 0 0 1 maybe.none) m (get_or s.words 0 0) (w, carried_after m.1 a)
+      Goal n = (w : Knows) × (a : Act (Option C)) × Valid s.homes m.1 a × Rule (stepped s 0 n id m.1 w a) × took told reason (step slots 0 0 1 maybe.none) m (get_or s.words 0 0) (w, carried_after m.1 a)
 
       hit : get_or s.words 0 0 ≡ 0 → Goal 1
-      hit e = let h = k.home e in let c : C = h.0 in let l : Lists = lists_of records c in let same : l ≡ k.now = same_lists c k.now h.2 in let w : Knows = knowledge_in_turn m.0 l (stop_of records reason c) in
+      hit e = let h = k.home e in let c : C = h.0 in let l : Lists = lists_of told c in let same : l ≡ k.now = same_lists c k.now h.2 in let w : Knows = knowledge_in_turn m.0 l (stop_of told reason c) in
           let mine = k.each id m.0 at in (
             w,
             takes 0 (Some c),
@@ -150,13 +150,13 @@ module _ {C : Type 0} (records : C → Path → Records) (reason : C → Option 
         ((λ e. absurd (ne e)), λ _. refl),
       )
 
-  -- To give the turn back keeps the rule, if only the paths of the seat have new records.
-  pub gives_turn : (slots id : ℕ) (m : Sat) (v : Knows) (c : C) → m ≡ (v, (0, Some c) ∷ []) → v.busy ≡ true → ((p : Path) → has (steps p) v.rights ≡ false → records c p ≡ of_path v.found p)
-      → ((s : Stop) → v.found_stop ≡ Some s → stop_of records reason c ≡ Some s) → Allows Rule slots id m 0 (λ _. 0) (gave records reason (step slots 0 0 0 maybe.none) m)
-  gives_turn slots id m v c is busy others on = subst (λ (x : Sat). Allows Rule slots id x 0 (λ _. 0) (gave records reason (step slots 0 0 0 maybe.none) x)) (sym is) gives_here
+  -- To give the turn back keeps the rule, if only the paths of the seat have new tellings.
+  pub gives_turn : (slots id : ℕ) (m : Sat) (v : Knows) (c : C) → m ≡ (v, (0, Some c) ∷ []) → v.busy ≡ true → ((p : Path) → has (steps p) v.rights ≡ false → told c p ≡ of_path v.found p)
+      → ((s : Stop) → v.found_stop ≡ Some s → stop_of told reason c ≡ Some s) → Allows Rule slots id m 0 (λ _. 0) (gave told reason (step slots 0 0 0 maybe.none) m)
+  gives_turn slots id m v c is busy others on = subst (λ (x : Sat). Allows Rule slots id x 0 (λ _. 0) (gave told reason (step slots 0 0 0 maybe.none) x)) (sym is) gives_here
     where
-      gives_here : Allows Rule slots id (v, (0, Some c) ∷ []) 0 (λ _. 0) (gave records reason (step slots 0 0 0 maybe.none) (v, (0, Some c) ∷ []))
-      gives_here s k long at small = let l : Lists = lists_of records c in let stop : Option Stop = stop_of records reason c in let w : Knows = idle v.rights l (stop_list stop) v.calls in let mine = k.each id v at in let had = mine.busy busy in
+      gives_here : Allows Rule slots id (v, (0, Some c) ∷ []) 0 (λ _. 0) (gave told reason (step slots 0 0 0 maybe.none) (v, (0, Some c) ∷ []))
+      gives_here s k long at small = let l : Lists = lists_of told c in let stop : Option Stop = stop_of told reason c in let w : Knows = idle v.rights l (stop_list stop) v.calls in let mine = k.each id v at in let had = mine.busy busy in
           let fits : (j : ℕ) (u : Knows) → j ≢ id → get_elem? s.views j ≡ some u → Fits l stop k.owner 0 0 j u =
           λ j u other there. let f = k.each j u there in record {
             owns = f.owns;
@@ -272,11 +272,11 @@ module _ {C : Type 0} (records : C → Path → Records) (reason : C → Option 
         away = λ z. let a = k.away z in (a.0, set_else (set s.views id both) other k.holder spent (not_holder other w a.0 at_w wrests a.1 a.2) ∙ (set_else s.views id k.holder both (not_holder id v a.0 at rests a.1 a.2) ∙ a.1), a.2);
       }
 
-  -- A table without records starts with the rule.
-  pub starts : (c : C) → ((p : Path) → records c p ≡ []) → Rule (opening (0 ∷ 0 ∷ 0 ∷ []) (Some c ∷ []) first_knowledge)
+  -- A table without tellings starts with the rule.
+  pub starts : (c : C) → ((p : Path) → told c p ≡ []) → Rule (opening (0 ∷ 0 ∷ 0 ∷ []) (Some c ∷ []) first_knowledge)
   starts c none = record {
     now = no_lists;
-    stop = stop_of records reason c;
+    stop = stop_of told reason c;
     owner = λ _. 0;
     holder = 0;
     wide = omega arith;
@@ -290,11 +290,11 @@ module _ {C : Type 0} (records : C → Path → Records) (reason : C → Option 
       no_list One = refl
       no_list Two = refl
 
-      fits : Fits no_lists (stop_of records reason c) (λ _. 0) 0 0 0 first_knowledge
+      fits : Fits no_lists (stop_of told reason c) (λ _. 0) 0 0 0 first_knowledge
       fits = record { owns = λ r h. refl; lists = λ p h. refl; stops = tt; busy = λ z. absurd (true≢false (sym z)); busy_stop = λ z. absurd (true≢false (sym z)) }
 
-      first_alone : (j : ℕ) (u : Knows) → get_elem? (first_knowledge ∷ []) j ≡ some u → Fits no_lists (stop_of records reason c) (λ _. 0) 0 0 j u
-      first_alone zero u e = subst (Fits no_lists (stop_of records reason c) (λ _. 0) 0 0 0) (some-injective first_knowledge u e) fits
+      first_alone : (j : ℕ) (u : Knows) → get_elem? (first_knowledge ∷ []) j ≡ some u → Fits no_lists (stop_of told reason c) (λ _. 0) 0 0 j u
+      first_alone zero u e = subst (Fits no_lists (stop_of told reason c) (λ _. 0) 0 0 0) (some-injective first_knowledge u e) fits
       first_alone (suc j) u e = absurd (some-ne-none u (sym e))
 
   -- A change of a word other than that of the turn keeps the rule.
@@ -355,10 +355,10 @@ module _ {C : Type 0} (records : C → Path → Records) (reason : C → Option 
     refl,
   )
 
-  -- At the end, with a seat that has every right, the table is in its slot with the records of that
+  -- At the end, with a seat that has every right, the table is in its slot with the tellings of that
   -- seat.
   pub ends : (id : ℕ) (v : Knows) (ws : List ℕ) (xs : List (Option C)) → v.busy ≡ false → ((r : Right) → has r v.rights ≡ true) → Final (Seen Rule id v) ws xs
-      → (c : C) × (get_elem? xs 0 ≡ some (Some c)) × ((p : Path) → records c p ≡ of_path v.lists p) × AreStops (stop_of records reason c) v.stops
+      → (c : C) × (get_elem? xs 0 ≡ some (Some c)) × ((p : Path) → told c p ≡ of_path v.lists p) × AreStops (stop_of told reason c) v.stops
   ends id v ws xs rests all end = let s : St = end.0 in let k = end.1.0 in let at = end.1.1 in let mine = k.each id v at in
       let quiet : get_or s.words 0 0 ≡ 0 = nobody s k at (get_or s.words 0 0) refl in let h = k.home quiet in
       (h.0, end.4 0 (Some h.0) h.1, (λ p. h.2 p ∙ sym (mine.lists p (all (steps p)))), subst (λ (o : Option Stop). AreStops o v.stops) (sym h.3) mine.stops)
@@ -414,16 +414,16 @@ lacks_all (steps Two) = refl
 lacks_all (halts One) = refl
 lacks_all (halts Two) = refl
 
--- The records that are picked are those of the seat that may step the path.
-of_either : (a b : Bool) (x y : Records) → (a || b) ≡ true → ((a ≡ true) × ((if a then x else y) ≡ x)) ⊎ ((b ≡ true) × ((if a then x else y) ≡ y))
+-- The tellings that are picked are those of the seat that may step the path.
+of_either : (a b : Bool) (x y : Tellings) → (a || b) ≡ true → ((a ≡ true) × ((if a then x else y) ≡ x)) ⊎ ((b ≡ true) × ((if a then x else y) ≡ y))
 of_either true b x y e = inl (refl, refl)
 of_either false b x y e = inr (e, refl)
 
 -- The cuts and joins of seats as the code makes them, and the end.
-module _ {C : Type 0} (records : C → Path → Records) (reason : C → Option Halt) where
+module _ {C : Type 0} (told : C → Path → Tellings) (reason : C → Option Halt) where
   -- To join two seats keeps the rule, as the code joins them.
-  pub glues : (id : ℕ) (v : Knows) (other : ℕ) (w : Knows) → v.busy ≡ false → w.busy ≡ false → Joins (Kept records reason) id v other w (joined_knowledge v w) no_knowledge
-  glues id v other w rests wrests = joins records reason id v other w (joined_knowledge v w) no_knowledge rests wrests refl refl lacks_all (λ r. has_plus r v.rights w.rights) lists refl refl
+  pub glues : (id : ℕ) (v : Knows) (other : ℕ) (w : Knows) → v.busy ≡ false → w.busy ≡ false → Joins (Kept told reason) id v other w (joined_knowledge v w) no_knowledge
+  glues id v other w rests wrests = joins told reason id v other w (joined_knowledge v w) no_knowledge rests wrests refl refl lacks_all (λ r. has_plus r v.rights w.rights) lists refl refl
     where
       lists : (p : Path) → has (steps p) (plus v.rights w.rights) ≡ true
           → ((has (steps p) v.rights ≡ true) × (of_path (picked_lists v w) p ≡ of_path v.lists p)) ⊎ ((has (steps p) w.rights ≡ true) × (of_path (picked_lists v w) p ≡ of_path w.lists p))
@@ -431,18 +431,18 @@ module _ {C : Type 0} (records : C → Path → Records) (reason : C → Option 
       lists Two e = of_either v.rights.steps.two w.rights.steps.two v.lists.two w.lists.two e
 
   -- To cut off some of a seat's rights keeps the rule.
-  pub cuts : (id : ℕ) (u v : Knows) (m : Rights) → u ≡ v → v.busy ≡ false → ((r : Right) → has r m ≡ true → has r v.rights ≡ true) → Splits (Kept records reason) id u (knowledge_left m u) (knowledge_cut_off m u)
-  cuts id u v m e rests had = subst (λ (x : Knows). Splits (Kept records reason) id x (knowledge_left m x) (knowledge_cut_off m x)) (sym e)
-      (splits records reason id v (knowledge_left m v) (knowledge_cut_off m v) rests refl refl refl refl refl refl (λ r. has_minus r v.rights m) (λ r h. (had r h, minus_lacks r v.rights m h)))
+  pub cuts : (id : ℕ) (u v : Knows) (m : Rights) → u ≡ v → v.busy ≡ false → ((r : Right) → has r m ≡ true → has r v.rights ≡ true) → Splits (Kept told reason) id u (knowledge_left m u) (knowledge_cut_off m u)
+  cuts id u v m e rests had = subst (λ (x : Knows). Splits (Kept told reason) id x (knowledge_left m x) (knowledge_cut_off m x)) (sym e)
+      (splits told reason id v (knowledge_left m v) (knowledge_cut_off m v) rests refl refl refl refl refl refl (λ r. has_minus r v.rights m) (λ r h. (had r h, minus_lacks r v.rights m h)))
 
-  -- The seat that took in all others has all rights, so the table is in its slot with the records
+  -- The seat that took in all others has all rights, so the table is in its slot with the tellings
   -- of both paths.
   pub ends_joined : (id : ℕ) (u a b c d : Knows) (ws : List ℕ) (xs : List (Option C)) → u ≡ joined_knowledge (joined_knowledge (joined_knowledge a b) c) d → a.rights ≡ right_of (steps One) → b.rights ≡ right_of (steps Two)
-      → c.rights ≡ right_of (halts One) → d.rights ≡ right_of (halts Two) → Final (Seen (Kept records reason) id u) ws xs
-      → (t : C) × (get_elem? xs 0 ≡ some (Some t)) × (records t One ≡ a.lists.one) × (records t Two ≡ b.lists.two)
-      × AreStops (stop_of records reason t) (((a.stops ++ b.stops) ++ c.stops) ++ d.stops)
+      → c.rights ≡ right_of (halts One) → d.rights ≡ right_of (halts Two) → Final (Seen (Kept told reason) id u) ws xs
+      → (t : C) × (get_elem? xs 0 ≡ some (Some t)) × (told t One ≡ a.lists.one) × (told t Two ≡ b.lists.two)
+      × AreStops (stop_of told reason t) (((a.stops ++ b.stops) ++ c.stops) ++ d.stops)
   ends_joined id u a b c d ws xs is ea eb ec ed end = let v : Knows = joined_knowledge (joined_knowledge (joined_knowledge a b) c) d in
-      let t = ends records reason id v ws xs refl all (subst (λ (x : Knows). Final (Seen (Kept records reason) id x) ws xs) is end) in
+      let t = ends told reason id v ws xs refl all (subst (λ (x : Knows). Final (Seen (Kept told reason) id x) ws xs) is end) in
       (t.0, t.1, t.2 One ∙ first_is, t.2 Two ∙ second_is, t.3)
     where
       all : (r : Right) → has r (joined_knowledge (joined_knowledge (joined_knowledge a b) c) d).rights ≡ true
@@ -458,7 +458,7 @@ module _ {C : Type 0} (records : C → Path → Records) (reason : C → Option 
       second_is = subst (λ (x : Rights × Rights). (joined_knowledge (joined_knowledge (joined_knowledge (record a { rights = x.0 }) (record b { rights = x.1 })) c) d).lists.two ≡ b.lists.two) (λ i. (sym ea i, sym eb i)) refl
 
   -- The first cut: the seat that steps path 2.
-  pub cuts_two : (id : ℕ) (u : Knows) → u ≡ first_knowledge → Splits (Kept records reason) id u (knowledge_left (right_of (steps Two)) u) (knowledge_cut_off (right_of (steps Two)) u)
+  pub cuts_two : (id : ℕ) (u : Knows) → u ≡ first_knowledge → Splits (Kept told reason) id u (knowledge_left (right_of (steps Two)) u) (knowledge_cut_off (right_of (steps Two)) u)
   cuts_two id u e = cuts id u first_knowledge (right_of (steps Two)) e refl all_had
     where
       all_had : (r : Right) → has r (right_of (steps Two)) ≡ true → has r first_knowledge.rights ≡ true
@@ -468,7 +468,7 @@ module _ {C : Type 0} (records : C → Path → Records) (reason : C → Option 
       all_had (halts Two) h = refl
 
   -- The second cut: the seat that halts for path 1's turret.
-  pub cuts_three : (id : ℕ) (u : Knows) → u ≡ knowledge_left (right_of (steps Two)) first_knowledge → Splits (Kept records reason) id u (knowledge_left (right_of (halts One)) u) (knowledge_cut_off (right_of (halts One)) u)
+  pub cuts_three : (id : ℕ) (u : Knows) → u ≡ knowledge_left (right_of (steps Two)) first_knowledge → Splits (Kept told reason) id u (knowledge_left (right_of (halts One)) u) (knowledge_cut_off (right_of (halts One)) u)
   cuts_three id u e = cuts id u (knowledge_left (right_of (steps Two)) first_knowledge) (right_of (halts One)) e refl all_had
     where
       all_had : (r : Right) → has r (right_of (halts One)) ≡ true → has r (knowledge_left (right_of (steps Two)) first_knowledge).rights ≡ true
@@ -478,7 +478,7 @@ module _ {C : Type 0} (records : C → Path → Records) (reason : C → Option 
       all_had (halts Two) h = refl
 
   -- The third cut: the seat that halts for path 2's turret.
-  pub cuts_four : (id : ℕ) (u : Knows) → u ≡ knowledge_left (right_of (halts One)) (knowledge_left (right_of (steps Two)) first_knowledge) → Splits (Kept records reason) id u (knowledge_left (right_of (halts Two)) u) (knowledge_cut_off (right_of (halts Two)) u)
+  pub cuts_four : (id : ℕ) (u : Knows) → u ≡ knowledge_left (right_of (halts One)) (knowledge_left (right_of (steps Two)) first_knowledge) → Splits (Kept told reason) id u (knowledge_left (right_of (halts Two)) u) (knowledge_cut_off (right_of (halts Two)) u)
   cuts_four id u e = cuts id u (knowledge_left (right_of (halts One)) (knowledge_left (right_of (steps Two)) first_knowledge)) (right_of (halts Two)) e refl all_had
     where
       all_had : (r : Right) → has r (right_of (halts Two)) ≡ true → has r (knowledge_left (right_of (halts One)) (knowledge_left (right_of (steps Two)) first_knowledge)).rights ≡ true
@@ -498,50 +498,50 @@ unfolding or_else
 same_held x y e = ap (or_else x) e
 
 -- what a seat knows of a stop, of a table that has come to this
-module _ {C : Type 0} (records : C → Path → Records) (reason : C → Option Halt) where
+module _ {C : Type 0} (told : C → Path → Tellings) (reason : C → Option Halt) where
   -- No stop is a stop.
   none_some : {X : Type 0} (s : Stop) → None ≡ Some s → X
   none_some s is = absurd (let clash : ◌≡◌ {A = Option Stop} None (Some s) = is in cc)
 
-  -- A stop has the table's reason and records.
-  reason_of_stop : (why : Option Halt) (l : Lists) (s : Stop) → stop_by why l ≡ Some s → (why ≡ Some s.why) × (l ≡ s.records)
+  -- A stop has the table's reason and tellings.
+  reason_of_stop : (why : Option Halt) (l : Lists) (s : Stop) → stop_by why l ≡ Some s → (why ≡ Some s.why) × (l ≡ s.told)
   reason_of_stop None l s is = none_some s is
-  reason_of_stop (Some why) l s is = let e : record { why = why; records = l } ≡ s = cc in (ap (λ (x : Stop). Some x.why) e, ap (λ (x : Stop). x.records) e)
+  reason_of_stop (Some why) l s is = let e : record { why = why; told = l } ≡ s = cc in (ap (λ (x : Stop). Some x.why) e, ap (λ (x : Stop). x.told) e)
 
-  -- If a table that has halted keeps its reason and its records, it keeps its stop.
-  pub stop_stays : (c c' : C) → ((why : Halt) → reason c ≡ Some why → (reason c' ≡ Some why) × ((p : Path) → records c' p ≡ records c p))
-      → (s : Stop) → stop_of records reason c ≡ Some s → stop_of records reason c' ≡ Some s
+  -- If a table that has halted keeps its reason and its tellings, it keeps its stop.
+  pub stop_stays : (c c' : C) → ((why : Halt) → reason c ≡ Some why → (reason c' ≡ Some why) × ((p : Path) → told c' p ≡ told c p))
+      → (s : Stop) → stop_of told reason c ≡ Some s → stop_of told reason c' ≡ Some s
   stop_stays c c' stays s is =
-      let r = reason_of_stop (reason c) (lists_of records c) s is in
+      let r = reason_of_stop (reason c) (lists_of told c) s is in
       let t = stays s.why r.0 in
-      let same : lists_of records c' ≡ lists_of records c = λ i. record { one = t.1 One i; two = t.1 Two i } in
-      (λ i. stop_by (t.0 i) (lists_of records c')) ∙ ap (λ (l : Lists). stop_by (Some s.why) l) (same ∙ r.1)
+      let same : lists_of told c' ≡ lists_of told c = λ i. record { one = t.1 One i; two = t.1 Two i } in
+      (λ i. stop_by (t.0 i) (lists_of told c')) ∙ ap (λ (l : Lists). stop_by (Some s.why) l) (same ∙ r.1)
 
   -- What a stop says of the table is so.
-  has_stopped : (c : C) (s : Stop) → stop_of records reason c ≡ Some s → HasStopped records reason c s
+  has_stopped : (c : C) (s : Stop) → stop_of told reason c ≡ Some s → HasStopped told reason c s
   has_stopped c s is =
-      let r = reason_of_stop (reason c) (lists_of records c) s is in
-      record { why = r.0; records_are = λ p. sym (list_is c p) ∙ ap (λ (l : Lists). of_path l p) r.1 }
+      let r = reason_of_stop (reason c) (lists_of told c) s is in
+      record { why = r.0; told_is = λ p. sym (list_is c p) ∙ ap (λ (l : Lists). of_path l p) r.1 }
     where
-      list_is : (c : C) (p : Path) → of_path (lists_of records c) p ≡ records c p
+      list_is : (c : C) (p : Path) → of_path (lists_of told c) p ≡ told c p
       list_is c One = refl
       list_is c Two = refl
 
   -- If the seat knew of a halt, the table is what it was then.
-  still : (c : C) (stops : List Stop) → AreStops (stop_of records reason c) stops → IsAsAtStop records reason c (first_stop stops)
+  still : (c : C) (stops : List Stop) → AreStops (stop_of told reason c) stops → IsAsAtStop told reason c (first_stop stops)
   still c [] are = tt
   still c (s ∷ stops) are = has_stopped c s are.0
 
   -- What each of four seats knew is so of the table that was taken out.
-  pub stills : (c held : C) → c ≡ held → (first second third fourth : List Stop) → AreStops (stop_of records reason c) (((first ++ second) ++ third) ++ fourth)
-      → IsAsAtStop records reason held (first_stop first) × IsAsAtStop records reason held (first_stop second) × IsAsAtStop records reason held (first_stop third)
-      × IsAsAtStop records reason held (first_stop fourth)
+  pub stills : (c held : C) → c ≡ held → (first second third fourth : List Stop) → AreStops (stop_of told reason c) (((first ++ second) ++ third) ++ fourth)
+      → IsAsAtStop told reason held (first_stop first) × IsAsAtStop told reason held (first_stop second) × IsAsAtStop told reason held (first_stop third)
+      × IsAsAtStop told reason held (first_stop fourth)
   stills c held same first second third fourth are =
-      let a = stops_first (stop_of records reason c) ((first ++ second) ++ third) fourth are in
-      let b = stops_first (stop_of records reason c) (first ++ second) third a.0 in
-      let d = stops_first (stop_of records reason c) first second b.0 in
-      subst (λ (x : C). IsAsAtStop records reason x (first_stop first) × IsAsAtStop records reason x (first_stop second) × IsAsAtStop records reason x (first_stop third)
-      × IsAsAtStop records reason x (first_stop fourth)) same (still c first d.0, still c second d.1, still c third b.1, still c fourth a.1)
+      let a = stops_first (stop_of told reason c) ((first ++ second) ++ third) fourth are in
+      let b = stops_first (stop_of told reason c) (first ++ second) third a.0 in
+      let d = stops_first (stop_of told reason c) first second b.0 in
+      subst (λ (x : C). IsAsAtStop told reason x (first_stop first) × IsAsAtStop told reason x (first_stop second) × IsAsAtStop told reason x (first_stop third)
+      × IsAsAtStop told reason x (first_stop fourth)) same (still c first d.0, still c second d.1, still c third b.1, still c fourth a.1)
 
   -- If each stop of a list is the table's, and the first of them is `s`, the table's stop is `s`.
   pub first_known : (stop : Option Stop) (stops : List Stop) (s : Stop) → AreStops stop stops → first_stop stops ≡ Some s → stop ≡ Some s

@@ -15,7 +15,7 @@ use Rattle.nc_number.specs.declared.path.Path.TheVariants.{One, Two}
 use Rattle.nc_number.specs.Both.{of_path}
 use Rattle.nc_outside.specs.declared.halt.Halt.{Halt}
 use Rattle.nc_outside.specs.declared.stepper.Call.{Call}
-use Rattle.seat_table.specs.Turning.{Records}
+use Rattle.seat_table.specs.Turning.{Tellings}
 use Rattle.seat_table.specs.declared.knowing.Rights.{Rights}
 use Rattle.seat_table.specs.declared.knowing.Stop.{Stop}
 use Rattle.seat_table.specs.declared.knowing.Knows.{Knows}
@@ -34,22 +34,22 @@ abbrev pub has : Right → Rights → Bool
 has (steps path) r = of_path r.steps path
 has (halts path) r = of_path r.halts path
 
--- The records of both paths.
+-- The tellings of both paths.
 abbrev pub Lists : Type 0
-Lists = Both Records
+Lists = Both Tellings
 
--- The records of both paths of this table.
-abbrev pub lists_of : {C : Type 0} → (C → Path → Records) → C → Lists
-lists_of records c = record { one = records c One; two = records c Two }
+-- The tellings of both paths of this table.
+abbrev pub lists_of : {C : Type 0} → (C → Path → Tellings) → C → Lists
+lists_of told c = record { one = told c One; two = told c Two }
 
--- The stop of a table with these records, if it has a reason to halt.
+-- The stop of a table with these tellings, if it has a reason to halt.
 abbrev pub stop_by : Option Halt → Lists → Option Stop
 stop_by None l = None
-stop_by (Some why) l = Some (record { why = why; records = l })
+stop_by (Some why) l = Some (record { why = why; told = l })
 
--- The stop of this table, if it has halted: why, and its records.
-abbrev pub stop_of : {C : Type 0} → (C → Path → Records) → (C → Option Halt) → C → Option Stop
-stop_of records reason c = stop_by (reason c) (lists_of records c)
+-- The stop of this table, if it has halted: why, and its tellings.
+abbrev pub stop_of : {C : Type 0} → (C → Path → Tellings) → (C → Option Halt) → C → Option Stop
+stop_of told reason c = stop_by (reason c) (lists_of told c)
 
 -- Each stop of the list is the stop of the table; if the table has not halted, the list is empty.
 abbrev pub AreStops : Option Stop → List Stop → Type 0
@@ -66,29 +66,29 @@ abbrev pub first_stop : List Stop → Option Stop
 first_stop [] = None
 first_stop (stop ∷ stops) = Some stop
 
--- A table with these records `now`, halted or not. Seat `owner r` has the right `r`. If a seat has
+-- A table with these tellings `now`, halted or not. Seat `owner r` has the right `r`. If a seat has
 -- the turn, it is `holder`; `word` is the word of the turn. `id` is the seat that is spoken of.
 module _ (now : Lists) (stop : Option Stop) (owner : Right → ℕ) (holder word : ℕ) (id : ℕ) where
   -- What a seat knows, if it is so of the table: a right is that of one seat, a seat that may step
-  -- a path has the path's records, the seat that has the turn has found all records, and a seat
+  -- a path has the path's tellings, the seat that has the turn has found all tellings, and a seat
   -- that knows of a halt knows what the table has come to.
   pub record Fits (v : Knows) : Type 0 where
     -- Each right of the seat is its own.
     pub owns : (r : Right) → has r v.rights ≡ true → id ≡ owner r
-    -- It has the table's records of each path that it may step.
+    -- It has the table's tellings of each path that it may step.
     pub lists : (p : Path) → has (steps p) v.rights ≡ true → of_path v.lists p ≡ of_path now p
     -- What it knows of a halt is what the table has come to.
     pub stops : AreStops stop v.stops
-    -- If it has the turn, it is the holder, it has found the table's records, the word of the turn
+    -- If it has the turn, it is the holder, it has found the table's tellings, the word of the turn
     -- is not 0, and it has some right.
     pub busy : v.busy ≡ true → (id ≡ holder) × (v.found ≡ now) × (0 < word) × (r : Right) × (has r v.rights ≡ true)
     -- If it has the turn, it has found whether the table has halted.
     pub busy_stop : v.busy ≡ true → v.found_stop ≡ stop
 
--- The rule. While nobody has the turn, the table is in its slot, with these records, and has halted
+-- The rule. While nobody has the turn, the table is in its slot, with these tellings, and has halted
 -- or not. While it is taken, one seat has it.
-pub record Kept {C : Type 0} (records : C → Path → Records) (reason : C → Option Halt) (s : State (Option C) Knows) : Type 0 where
-  -- The records of the table.
+pub record Kept {C : Type 0} (told : C → Path → Tellings) (reason : C → Option Halt) (s : State (Option C) Knows) : Type 0 where
+  -- The tellings of the table.
   pub now : Lists
   -- The stop of the table, if it has halted.
   pub stop : Option Stop
@@ -105,11 +105,11 @@ pub record Kept {C : Type 0} (records : C → Path → Records) (reason : C → 
       → Fits now stop owner holder (slice_index s.words 0) id v
   -- If nobody has the turn (word 0 is 0), the table is in its slot.
   pub home : slice_index s.words 0 ≡ 0 → (c : C) × (get_elem? s.homes 0 ≡ some (some (Some c)))
-      × ((p : Path) → records c p ≡ of_path now p) × (stop_of records reason c ≡ stop)
+      × ((p : Path) → told c p ≡ of_path now p) × (stop_of told reason c ≡ stop)
   -- If somebody has it, that seat knows it.
   pub away : 0 < slice_index s.words 0 → (v : Knows) × (get_elem? s.views holder ≡ some v) × (v.busy ≡ true)
 
--- No records of either path.
+-- No tellings of either path.
 abbrev pub no_lists : Lists
 no_lists = record { one = []; two = [] }
 
@@ -185,7 +185,7 @@ knowledge_cut_off m v = idle m v.lists [] []
 abbrev pub knowledge_left : Rights → Knows → Knows
 knowledge_left m v = idle (minus v.rights m) v.lists v.stops v.calls
 
--- Of each path the records that the first seat lists, if it may step the path; else those of the
+-- Of each path the tellings that the first seat lists, if it may step the path; else those of the
 -- second seat.
 abbrev pub picked_lists : Knows → Knows → Lists
 picked_lists v w = record {
@@ -194,7 +194,7 @@ picked_lists v w = record {
 }
 
 -- What a seat that knew `v` knows once it took in one that knew `w`: it has the rights and stops of
--- both, of each path the records of the one that may step it, and its own calls alone.
+-- both, of each path the tellings of the one that may step it, and its own calls alone.
 abbrev pub joined_knowledge : Knows → Knows → Knows
 joined_knowledge v w = idle (plus v.rights w.rights) (picked_lists v w) (v.stops ++ w.stops) v.calls
 
@@ -202,7 +202,7 @@ joined_knowledge v w = idle (plus v.rights w.rights) (picked_lists v w) (v.stops
 abbrev pub knowledge_with_calls : List Call → Knows → Knows
 knowledge_with_calls calls v = record v { calls = v.calls ++ calls }
 
--- What a seat that knew `v` knows with the turn, once it found these records and this stop.
+-- What a seat that knew `v` knows with the turn, once it found these tellings and this stop.
 abbrev pub knowledge_in_turn : Knows → Lists → Option Stop → Knows
 knowledge_in_turn v l stop = record {
   rights = v.rights;
@@ -214,42 +214,42 @@ knowledge_in_turn v l stop = record {
   calls = v.calls;
 }
 
--- The steps on the word of the turn, for tables with these records and reasons.
-module _ {C : Type 0} (records : C → Path → Records) (reason : C → Option Halt) where
+-- The steps on the word of the turn, for tables with these tellings and reasons.
+module _ {C : Type 0} (told : C → Path → Tellings) (reason : C → Option Halt) where
   -- What a seat knows, with what it took from the slot.
   abbrev Sat : Type 0
   Sat = Me (Option C) Knows
 
-  -- The seat got the turn, as it found 0 there. Then it has the table, with these records.
+  -- The seat got the turn, as it found 0 there. Then it has the table, with these tellings.
   pub record Got (m : Sat) (m' : Sat) : Type 0 where
     -- The table.
     pub table : C
-    -- The seat has the turn, and found the table's records.
-    pub view : m'.0 ≡ knowledge_in_turn m.0 (lists_of records table) (stop_of records reason table)
+    -- The seat has the turn, and found the table's tellings.
+    pub view : m'.0 ≡ knowledge_in_turn m.0 (lists_of told table) (stop_of told reason table)
     -- The table is in its hand.
     pub slot : m'.1 ≡ (0, Some table) ∷ m.1
-    -- What it listed of the paths that it may step are the table's records.
-    pub lists : (p : Path) → has (steps p) m.0.rights ≡ true → of_path m.0.lists p ≡ records table p
+    -- What it listed of the paths that it may step are the table's tellings.
+    pub lists : (p : Path) → has (steps p) m.0.rights ≡ true → of_path m.0.lists p ≡ told table p
     -- What it knew of a halt is so of the table.
-    pub stops : AreStops (stop_of records reason table) m.0.stops
+    pub stops : AreStops (stop_of told reason table) m.0.stops
 
   -- The seat got the turn if it found 0 in the word of the turn; else nothing changed.
   abbrev pub took : Step (Option C) → Sat → ℕ → Sat → Type 0
   took st m n m' = (n ≡ 0 → Got m m') × (n ≢ 0 → m' ≡ m)
 
-  -- The records of the table in hand.
+  -- The tellings of the table in hand.
   abbrev pub lists_at : List (ℕ × Option C) → Lists
   lists_at [] = no_lists
-  lists_at ((k, Some c) ∷ xs) = lists_of records c
+  lists_at ((k, Some c) ∷ xs) = lists_of told c
   lists_at ((k, None) ∷ xs) = no_lists
 
   -- The stop of the table in hand as a list, which is empty if it has not halted.
   abbrev pub stops_at : List (ℕ × Option C) → List Stop
   stops_at [] = []
-  stops_at ((k, Some c) ∷ xs) = stop_list (stop_of records reason c)
+  stops_at ((k, Some c) ∷ xs) = stop_list (stop_of told reason c)
   stops_at ((k, None) ∷ xs) = []
 
-  -- The seat gave the table back: it keeps its rights and calls, and lists the table's records of
+  -- The seat gave the table back: it keeps its rights and calls, and lists the table's tellings of
   -- both paths, and its stop if it has halted.
   abbrev pub gave : Step (Option C) → Sat → ℕ → Sat → Type 0
   gave st m n m' = (m'.0 ≡ idle m.0.rights (lists_at m.1) (stops_at m.1) m.0.calls) × (m'.1 ≡ [])
@@ -262,20 +262,20 @@ IsAt seat table = (seat ≡ table) × (table.words ≡ 3) × (table.slots ≡ 1)
 abbrev pub Idle : {C : Type 0} → Me (Option C) Knows → Type 0
 Idle m = (m.0.busy ≡ false) × (m.1 ≡ [])
 
--- The seat has the turn, took the table out of its slot, and found all records.
-pub record Took {C : Type 0} (records : C → Path → Records) (reason : C → Option Halt) (m : Me (Option C) Knows) (table : C)
+-- The seat has the turn, took the table out of its slot, and found all tellings.
+pub record Took {C : Type 0} (told : C → Path → Tellings) (reason : C → Option Halt) (m : Me (Option C) Knows) (table : C)
     (m' : Me (Option C) Knows) : Type 0 where
-  -- The seat has the turn, and found the table's records.
-  pub view : m'.0 ≡ knowledge_in_turn m.0 (lists_of records table) (stop_of records reason table)
+  -- The seat has the turn, and found the table's tellings.
+  pub view : m'.0 ≡ knowledge_in_turn m.0 (lists_of told table) (stop_of told reason table)
   -- It left nothing in the slot.
   pub slot : m'.1 ≡ (0, None) ∷ []
-  -- What it listed of the paths that it may step are the table's records.
-  pub lists : (p : Path) → has (steps p) m.0.rights ≡ true → of_path m.0.lists p ≡ records table p
+  -- What it listed of the paths that it may step are the table's tellings.
+  pub lists : (p : Path) → has (steps p) m.0.rights ≡ true → of_path m.0.lists p ≡ told table p
   -- What it knew of a halt is so of the table.
-  pub stops : AreStops (stop_of records reason table) m.0.stops
+  pub stops : AreStops (stop_of told reason table) m.0.stops
 
--- The records of a path that a seat lists.
-abbrev pub list_at : {C : Type 0} → Path → Me (Option C) Knows → Records
+-- The tellings of a path that a seat lists.
+abbrev pub list_at : {C : Type 0} → Path → Me (Option C) Knows → Tellings
 list_at p m = of_path m.0.lists p
 
 -- The stop of the table that the seat knows, if it knows one.

@@ -7,24 +7,24 @@ use Rattle.nc_number.specs.declared.path.Path.{Path}
 use Rattle.nc_number.specs.Both.{of_path}
 use Rattle.nc_outside.specs.declared.halt.Halt.{Halt}
 use Rattle.nc_outside.specs.declared.stepper.Call.{Call}
-use Rattle.seat_table.specs.Turning.{Records}
+use Rattle.seat_table.specs.Turning.{Tellings}
 use Rattle.seat_table.specs.declared.knowing.Stop.{Stop}
 
--- The pass of a path: its table, its path, and the records that it lists; the halt of the table, if
+-- The pass of a path: its table, its path, and the tellings that it lists; the halt of the table, if
 -- it had halted when the pass last gave the turn back; and the calls that a stepper over it had.
 pub record Pass : Type 0 where
   -- The table at which it has a seat.
   pub table : TableId
   -- The path that it may step.
   pub path : Path
-  -- The records of the path that its steps made.
-  pub records : Records
+  -- The tellings of the path that its steps made.
+  pub told : Tellings
   -- What the table was when the pass found or made it halted, if it did.
   pub stop : Option Stop
   -- The calls that a stepper over the pass had.
   pub calls : List Call
 
--- The pass of the drive of a path's turret, which lists no records.
+-- The pass of the drive of a path's turret, which lists no tellings.
 pub record Halter : Type 0 where
   -- The table at which it has a seat.
   pub table : TableId
@@ -37,22 +37,22 @@ pub record Halter : Type 0 where
 
 -- A pass that has made no step.
 abbrev pub fresh_pass : TableId → Path → Pass
-fresh_pass table path = record { table = table; path = path; records = []; stop = None; calls = [] }
+fresh_pass table path = record { table = table; path = path; told = []; stop = None; calls = [] }
 
 -- A pass that has halted nothing.
 abbrev pub fresh_halter : TableId → Path → Halter
 fresh_halter table path = record { table = table; path = path; stop = None; calls = [] }
 
--- The table has halted for this reason, with these records.
-pub record HasStopped {C : Type 0} (records : C → Path → Records) (reason : C → Option Halt) (c : C) (stop : Stop) : Type 0 where
+-- The table has halted for this reason, with these tellings.
+pub record HasStopped {C : Type 0} (told : C → Path → Tellings) (reason : C → Option Halt) (c : C) (stop : Stop) : Type 0 where
   -- The reason is that of the stop.
   pub why : reason c ≡ Some stop.why
-  -- The records are those of the stop.
-  pub records_are : (p : Path) → records c p ≡ of_path stop.records p
+  -- The tellings are those of the stop.
+  pub told_is : (p : Path) → told c p ≡ of_path stop.told p
 
 -- If a pass knows that the table has halted, the table is what it was then.
-abbrev pub IsAsAtStop : {C : Type 0} → (C → Path → Records) → (C → Option Halt) → C → Option Stop → Type 0
-IsAsAtStop records reason c stop = IfSome stop (HasStopped records reason c)
+abbrev pub IsAsAtStop : {C : Type 0} → (C → Path → Tellings) → (C → Option Halt) → C → Option Stop → Type 0
+IsAsAtStop told reason c stop = IfSome stop (HasStopped told reason c)
 
 -- Whether there is a halt among these calls.
 abbrev pub has_halt : List Call → Bool

@@ -2,15 +2,15 @@
 use Rattle.std.specs.Prelude.{◌≡◌, ⊤}
 use Rattle.nc_outside.specs.Calls.{IsOfTurret}
 use Rattle.nc_outside.specs.declared.halt.Next.TheVariants.{Halted}
-use Rattle.seat_table.specs.Turning.{Records, Answers}
+use Rattle.seat_table.specs.Turning.{Tellings, Answers}
 use Rattle.seat_table.specs.declared.knowing.Stop.{Stop}
 use Rattle.seat_table.specs.declared.taking.Tried.{Tried}
 use Rattle.seat_table.specs.declared.taking.Tried.TheVariants.{Busy, Waits, Stepped}
 use Rattle.seat_table.specs.declared.taking.Notice.{Notice}
 use Rattle.seat_table.specs.declared.taking.Notice.TheVariants.{Drained, Halt}
 
--- What one try to step does to the records of its path: nothing, or what the step answered.
-abbrev pub Tries : Records → Tried → Records → Type 0
+-- What one try to step does to the tellings of its path: nothing, or what the step answered.
+abbrev pub Tries : Tellings → Tried → Tellings → Type 0
 Tries before Busy after = after ≡ before
 Tries before Waits after = after ≡ before
 Tries before (Stepped next) after = Answers before next after

@@ -9,19 +9,19 @@ ghost use Rattle.seat_table.specs.Knowing.{Kept, steps, halts, right_of, first_k
 use crate::turning::Turns;
 use atomic_table::{Join, Play, Split, TableRule};
 use nc_number::Both;
-use nc_outside::{Call, Halt, LinedMove};
+use nc_outside::{Call, Got, Halt};
 use std::collections::LinkedList;
 use std::marker::{Brand, PhantomData};
 
-/// The records of a path: of each its moves, with the line of their block.
-pub type Records = LinkedList<LinkedList<LinedMove>>;
+/// The tellings of a path: the moves and rests that its steps answered for its turret, in order.
+pub type Tellings = LinkedList<Got>;
 
-/// A halt of the table: why, and its records. (Specs call it the table's stop.)
+/// A halt of the table: why, and its tellings. (Specs call it the table's stop.)
 pub struct Stop {
     /// Why the table has halted.
     pub why: Halt,
-    /// The records of both paths that it had then.
-    pub records: Both<Records>,
+    /// The tellings of both paths that it had then.
+    pub told: Both<Tellings>,
 }
 
 /// What a seat is for: to step paths, and to halt the run for the turrets of paths.
@@ -36,28 +36,28 @@ pub struct Rights {
 pub struct Knows {
     /// What the seat may do.
     pub rights: Rights,
-    /// Records of both paths. Those of a path that it may step are the table's; those of another
+    /// Tellings of both paths. Those of a path that it may step are the table's; those of another
     /// path may be out of date.
-    pub lists: Both<Records>,
+    pub lists: Both<Tellings>,
     /// The halt of the table, if it had halted when the seat last gave the turn back. A seat that
     /// took others in has what they knew too.
     pub stops: LinkedList<Stop>,
     /// Whether it has the turn. Then the next two fields tell what it found.
     pub busy: bool,
-    /// The records that it found as it took the turn.
-    pub found: Both<Records>,
+    /// The tellings that it found as it took the turn.
+    pub found: Both<Tellings>,
     /// The halt of the table, if it had halted then.
     pub found_stop: Option<Stop>,
     /// The calls that a stepper over it had.
     pub calls: LinkedList<Call>,
 }
 
-/// The rule: while nobody has the turn, each seat that may step a path lists that path's records of
+/// The rule: while nobody has the turn, each seat that may step a path lists that path's tellings of
 /// the table. If a seat knows that the table has halted, the table is what it was then.
 pub struct Law;
 
 impl<C: Turns> TableRule<Option<C>, Knows, ()> for Law {
-    ghost holds = { λ _. Kept C.records C.reason };
+    ghost holds = { λ _. Kept C.told C.reason };
 
     ghost first = { λ _. first_knowledge };
 }
@@ -66,14 +66,14 @@ impl<C: Turns> TableRule<Option<C>, Knows, ()> for Law {
 pub struct Take;
 
 impl<C: Turns> Play<Option<C>, Knows> for Take {
-    ghost then = { took C.records C.reason };
+    ghost then = { took C.told C.reason };
 }
 
 /// The step that gives the turn back.
 pub struct Give;
 
 impl<C: Turns> Play<Option<C>, Knows> for Give {
-    ghost then = { gave C.records C.reason };
+    ghost then = { gave C.told C.reason };
 }
 
 /// The step that counts the end of a wait, or a seat that falls asleep or wakes: the seat knows
@@ -137,7 +137,7 @@ impl Split<Knows> for CutSecondHalt {
     ghost right = { knowledge_cut_off (right_of (halts Two)) };
 }
 
-/// Puts two seats together: one has the rights, records and stops of both and its own calls, the
+/// Puts two seats together: one has the rights, tellings and stops of both and its own calls, the
 /// other nothing.
 pub struct Glue;
 

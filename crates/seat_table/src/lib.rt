@@ -2,10 +2,10 @@
 //!
 //! A path steps in its turn: its seat takes the table out of its place, lets it do one step, and
 //! puts it back. A path that waits sleeps until its wait is over. Each seat lists what its steps
-//! came to, and the layer above leans on this: while nobody has the turn, the list of a path's seat
-//! is that of the table's records of the path, each with the moves that its step answered, and
-//! `close` gives the table back with both lists. A step takes no memory. A stepper over a seat tells
-//! its calls too, and the moves that they answered are those of the listed records. A table takes
+//! answered for the turret of its path, moves and rests in order (its tellings), and the layer above
+//! leans on this: while nobody has the turn, the list of a path's seat is that of the table's
+//! tellings of the path, and `close` gives the table back with both lists. A step takes no memory. A
+//! stepper over a seat tells its calls too, and what they answered is what is listed. A table takes
 //! its turns here, and the seats are given to threads.
 #![tactic(auto)]
 

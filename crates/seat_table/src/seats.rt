@@ -37,7 +37,7 @@ impl<C: Turns> Model for SeatTable<C> {
     ghost invariant = { λ t. (t.table.shared.table_id.words ≡ 3) × (t.table.shared.table_id.slots ≡ 1) };
 }
 
-/// The right to step a path. It lists the records of the path that its steps made, and has what the
+/// The right to step a path. It lists the tellings of the path that its steps made, and has what the
 /// table was when it found it halted.
 #[derive(Drop)]
 pub struct SeatPass<C> {
@@ -56,7 +56,7 @@ impl<C> Model for SeatPass<C> {
     ghost view = { λ p. record {
       table = p.place.table_id;
       path = p.path;
-      records = list_at p.path p.place.me;
+      told = list_at p.path p.place.me;
       stop = stop_at p.place.me;
       calls = p.place.me.0.calls;
     } };
@@ -117,7 +117,7 @@ impl<C: Turns> SeatTable<C> {
     /// A table that has made no record since it was opened, with the passes of its paths and of
     /// their drives. If memory ran out, the table comes back as the error.
     pub fn new(alloc: Global, table: C) -> Result<Seated<C>, C>
-        requires { (p : Path) → C.records table p ≡ [] }
+        requires { (p : Path) → C.told table p ≡ [] }
         ensures passes { IfOk result (λ s. (s.first ≡ fresh_pass s.table One) × (s.second ≡ fresh_pass s.table Two)) }
         ensures halters { IfOk result (λ s. (s.first_halt ≡ fresh_halter s.table One)
             × (s.second_halt ≡ fresh_halter s.table Two)) }
@@ -132,7 +132,7 @@ impl<C: Turns> SeatTable<C> {
     /// A table on the heap that has made no record since it was opened, with its four passes. If
     /// memory ran out, the table comes back as the error.
     fn over(alloc: Global, table: Box<C>) -> Result<Seated<C>, Box<C>>
-        requires { (p : Path) → C.records table.value p ≡ [] }
+        requires { (p : Path) → C.told table.value p ≡ [] }
         ensures passes { IfOk result (λ s. (s.first ≡ fresh_pass s.table One) × (s.second ≡ fresh_pass s.table Two)) }
         ensures halters { IfOk result (λ s. (s.first_halt ≡ fresh_halter s.table One)
             × (s.second_halt ≡ fresh_halter s.table Two)) }
@@ -176,8 +176,8 @@ impl<C: Turns> SeatTable<C> {
     /// step answers why.
     pub fn step<R: Wait>(&self, rt: &R, pass: &mut SeatPass<C>) -> Next
         requires { pass.old.table ≡ self.now }
-        ensures same { pass.new ≡ record pass.old { records = pass.new.records; stop = pass.new.stop } }
-        ensures records { Answers pass.old.records result pass.new.records }
+        ensures same { pass.new ≡ record pass.old { told = pass.new.told; stop = pass.new.stop } }
+        ensures told { Answers pass.old.told result pass.new.told }
         ensures stop { KeepsStop pass.old.stop pass.new.stop }
         ensures halted { IfSome pass.old.stop (λ s. result ≡ Halted s.why) }
     {
@@ -247,8 +247,8 @@ impl<C: Turns> SeatTable<C> {
         note::<Box<C>, N>(&self.table.shared, &mut pass.place);
     }
 
-    /// The table, whose records of each path are just those that the pass of the path lists. If a
-    /// pass found it halted, or halted it, it is halted for that reason, and its records are those
+    /// The table, whose tellings of each path are just those that the pass of the path lists. If a
+    /// pass found it halted, or halted it, it is halted for that reason, and its tellings are those
     /// that it had then. It takes no turn, and waits for nobody.
     pub fn close(
         self,
@@ -261,11 +261,11 @@ impl<C: Turns> SeatTable<C> {
             × (first_halt.table ≡ self) × (second_halt.table ≡ self) }
         requires paths { (first.path ≡ One) × (second.path ≡ Two)
             × (first_halt.path ≡ One) × (second_halt.path ≡ Two) }
-        ensures first { C.records result One ≡ first.records }
-        ensures second { C.records result Two ≡ second.records }
-        ensures stops { IsAsAtStop C.records C.reason result first.stop × IsAsAtStop C.records C.reason result second.stop }
-        ensures halts { IsAsAtStop C.records C.reason result first_halt.stop
-            × IsAsAtStop C.records C.reason result second_halt.stop }
+        ensures first { C.told result One ≡ first.told }
+        ensures second { C.told result Two ≡ second.told }
+        ensures stops { IsAsAtStop C.told C.reason result first.stop × IsAsAtStop C.told C.reason result second.stop }
+        ensures halts { IsAsAtStop C.told C.reason result first_halt.stop
+            × IsAsAtStop C.told C.reason result second_halt.stop }
     {
         let SeatTable { table } = self;
         let SeatPass { place: one, .. } = first;

@@ -1,11 +1,10 @@
 //! Steppers over the passes of a table: one for the worker of a path, and one for the drive of its
 //! turret. A stepper notes its calls, so that a clause can say which moves they answered.
 ghost use Rattle.std.specs.Prelude.{◌≡◌, [], ◌∷◌, ◌++◌, IsTrue, is_some};
-ghost use Rattle.nc_outside.specs.Calls.{moves_answered, IsOfTurret};
+ghost use Rattle.nc_outside.specs.Calls.{told_by, IsOfTurret};
 ghost use Rattle.nc_outside.specs.declared.halt.Next.TheVariants.{Silent};
 ghost use Rattle.nc_outside.specs.declared.stepper.Call.TheVariants as Called;
 ghost use Rattle.seat_table.specs.Passes.{has_halt};
-ghost use Rattle.seat_table.specs.Turning.{moves_in};
 
 use crate::seats::{HaltPass, SeatPass, SeatTable};
 use crate::turning::Turns;
@@ -15,8 +14,8 @@ use nc_outside::{Call, Drain, Drainable, Halt, Next, Stepper};
 use std::marker::{Brand, Model};
 use std::sync::Wait;
 
-/// A stepper over the pass of a path. It tells its calls, and the moves that its steps answered are
-/// those of the records that the pass lists. Each step is one of the path of the pass.
+/// A stepper over the pass of a path. It tells its calls, and what its steps answered for the turret
+/// is what the pass lists. Each step is one of the path of the pass.
 #[derive(Drop)]
 pub struct SeatStepper<'a, C: Turns, R> {
     /// The table at which the pass has its seat.
@@ -29,15 +28,14 @@ pub struct SeatStepper<'a, C: Turns, R> {
 
 impl<'a, C: Turns, R> Model for SeatStepper<'a, C, R> {
     ghost use Rattle.std.specs.Prelude.{◌≡◌};
-    ghost use Rattle.nc_outside.specs.Calls.{moves_answered};
+    ghost use Rattle.nc_outside.specs.Calls.{told_by};
     ghost use Rattle.seat_table.specs.Passes.{Pass};
-    ghost use Rattle.seat_table.specs.Turning.{moves_in};
 
     ghost Value = { Pass };
 
     ghost view = { λ s. s.pass };
 
-    ghost invariant = { λ s. (s.pass.table ≡ s.table.now) × (moves_answered s.pass.calls ≡ moves_in s.pass.records) };
+    ghost invariant = { λ s. (s.pass.table ≡ s.table.now) × (told_by s.pass.calls ≡ s.pass.told) };
 }
 
 /// A stepper over the pass of a drive, which is for halts alone: its steps are silent, and take no
@@ -69,7 +67,7 @@ impl<C: Turns> SeatTable<C> {
     /// A stepper over the pass of a path.
     pub fn stepper<'a, R>(&'a self, rt: &'a R, pass: SeatPass<C>) -> SeatStepper<'a, C, R>
         requires table { pass.table ≡ self.now }
-        requires told { moves_answered pass.calls ≡ moves_in pass.records }
+        requires told { told_by pass.calls ≡ pass.told }
         ensures { result ≡ pass }
     {
         SeatStepper {
@@ -94,11 +92,10 @@ impl<C: Turns> SeatTable<C> {
 }
 
 impl<'a, C: Turns, R> SeatStepper<'a, C, R> {
-    /// The pass. The moves that the stepper's steps answered are those of the records that it
-    /// lists.
+    /// The pass. What the stepper's steps answered for the turret is what it lists.
     pub fn into_pass(self) -> SeatPass<C>
         ensures pass { result ≡ self.entry }
-        ensures told { moves_answered result.calls ≡ moves_in result.records }
+        ensures told { told_by result.calls ≡ result.told }
     {
         let SeatStepper { pass, .. } = self;
         pass
@@ -126,10 +123,10 @@ fn step_noted<C: Turns, R: Wait>(
     path: Path,
 ) -> Next
     requires table { pass.old.table ≡ table.now }
-    requires told { moves_answered pass.old.calls ≡ moves_in pass.old.records }
+    requires told { told_by pass.old.calls ≡ pass.old.told }
     ensures same { (pass.new.table ≡ pass.old.table) × (pass.new.path ≡ pass.old.path) }
     ensures calls { pass.new.calls ≡ pass.old.calls ++ Called.Step path result ∷ [] }
-    ensures told { moves_answered pass.new.calls ≡ moves_in pass.new.records }
+    ensures told { told_by pass.new.calls ≡ pass.new.told }
 {
     let next = table.step(rt, pass);
     table.note_step::<Brand>(pass, path, &next);
@@ -146,10 +143,10 @@ fn drained_noted<C: Turns, R: Wait, P: Drain>(
     proof: P,
 )
     requires table { pass.old.table ≡ table.now }
-    requires told { moves_answered pass.old.calls ≡ moves_in pass.old.records }
+    requires told { told_by pass.old.calls ≡ pass.old.told }
     ensures same { (pass.new.table ≡ pass.old.table) × (pass.new.path ≡ pass.old.path) }
     ensures calls { pass.new.calls ≡ pass.old.calls ++ Called.Drained path (P.count proof) ∷ [] }
-    ensures told { moves_answered pass.new.calls ≡ moves_in pass.new.records }
+    ensures told { told_by pass.new.calls ≡ pass.new.told }
 {
     table.drained(rt, pass, &proof);
     let count = proof.count();
@@ -161,10 +158,10 @@ fn drained_noted<C: Turns, R: Wait, P: Drain>(
 #[tactic(auto, using(crate::proofs::Telling::halt_told))]
 fn halt_noted<C: Turns, R: Wait>(table: &SeatTable<C>, rt: &R, pass: &mut SeatPass<C>, why: &Halt)
     requires table { (pass.old.table ≡ table.now) × IsOfTurret why.now }
-    requires told { moves_answered pass.old.calls ≡ moves_in pass.old.records }
+    requires told { told_by pass.old.calls ≡ pass.old.told }
     ensures same { (pass.new.table ≡ pass.old.table) × (pass.new.path ≡ pass.old.path) }
     ensures calls { pass.new.calls ≡ pass.old.calls ++ Called.Halt why.now ∷ [] }
-    ensures told { moves_answered pass.new.calls ≡ moves_in pass.new.records }
+    ensures told { told_by pass.new.calls ≡ pass.new.told }
 {
     table.halt_path(rt, pass, *why);
     let call = Call::Halt(*why);

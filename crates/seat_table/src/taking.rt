@@ -55,7 +55,7 @@ fn take<C: Turns>(shared: &Shared<Option<C>, Knows, (), Law>, place: &mut Place<
     requires right { (r : Right) × (has r place.old.me.0.rights ≡ true) }
     ensures same { (place.new.table_id ≡ place.old.table_id) × (place.new.id ≡ place.old.id) }
     ensures took { MatchOption result (place.new.me ≡ place.old.me)
-        (λ c. Took C.records C.reason place.old.me c place.new.me) }
+        (λ c. Took C.told C.reason place.old.me c place.new.me) }
 {
     if shared.compare_exchange::<Take>(place, 0, 0, 1) != 0 {
         return None;
@@ -71,12 +71,12 @@ fn give<C: Turns>(shared: &Shared<Option<C>, Knows, (), Law>, place: &mut Place<
     requires table { IsAt place.old.table_id shared.now.table_id }
     requires busy { (place.old.me.0.busy ≡ true) × (place.old.me.1 ≡ (0, None) ∷ []) }
     requires others { (p : Path) → has (steps p) place.old.me.0.rights ≡ false
-        → C.records table p ≡ of_path place.old.me.0.found p }
-    requires stop { KeepsStop place.old.me.0.found_stop (stop_of C.records C.reason table) }
+        → C.told table p ≡ of_path place.old.me.0.found p }
+    requires stop { KeepsStop place.old.me.0.found_stop (stop_of C.told C.reason table) }
     ensures same { (place.new.table_id ≡ place.old.table_id) × (place.new.id ≡ place.old.id) }
     ensures gave { place.new.me ≡ (
-      idle place.old.me.0.rights (lists_of C.records table)
-          (stop_list (stop_of C.records C.reason table)) place.old.me.0.calls,
+      idle place.old.me.0.rights (lists_of C.told table)
+          (stop_list (stop_of C.told C.reason table)) place.old.me.0.calls,
       [],
     ) }
 {
@@ -217,9 +217,9 @@ fn turn<C: Turns>(
 /// Tells the table that a path was drained, or that the run is to halt.
 fn tell<C: Turns>(table: &mut C, notice: &Notice)
     requires { IsGiven notice.now }
-    ensures records { (p : Path) → C.records table.new p ≡ C.records table.old p }
-    ensures stop { KeepsStop (stop_of C.records C.reason table.old) (stop_of C.records C.reason table.new) }
-    ensures halt { IsHalt notice.now → IsTrue (is_some (stop_of C.records C.reason table.new)) }
+    ensures told { (p : Path) → C.told table.new p ≡ C.told table.old p }
+    ensures stop { KeepsStop (stop_of C.told C.reason table.old) (stop_of C.told C.reason table.new) }
+    ensures halt { IsHalt notice.now → IsTrue (is_some (stop_of C.told C.reason table.new)) }
 {
     match notice {
         Notice::Drained(path) => table.drained(*path),
@@ -311,7 +311,7 @@ pub(crate) fn tell_until<C: Turns, R: Wait>(
     unreachable!()
 }
 
-/// Puts the four seats together and gives the table, whose records are those that the seats list.
+/// Puts the four seats together and gives the table, whose tellings are those that the seats list.
 pub(crate) fn close_all<C: Turns>(
     table: Table<Option<C>, Knows, (), Law, Global>,
     first: Place<C>,
@@ -326,12 +326,12 @@ pub(crate) fn close_all<C: Turns>(
         × (second_halt.table_id ≡ table.shared.table_id) }
     requires paths { IsOf (steps One) first.me × IsOf (steps Two) second.me }
     requires halts { IsOf (halts One) first_halt.me × IsOf (halts Two) second_halt.me }
-    ensures first { C.records result One ≡ list_at One first.me }
-    ensures second { C.records result Two ≡ list_at Two second.me }
-    ensures stops { IsAsAtStop C.records C.reason result (stop_at first.me)
-        × IsAsAtStop C.records C.reason result (stop_at second.me) }
-    ensures halts { IsAsAtStop C.records C.reason result (stop_at first_halt.me)
-        × IsAsAtStop C.records C.reason result (stop_at second_halt.me) }
+    ensures first { C.told result One ≡ list_at One first.me }
+    ensures second { C.told result Two ≡ list_at Two second.me }
+    ensures stops { IsAsAtStop C.told C.reason result (stop_at first.me)
+        × IsAsAtStop C.told C.reason result (stop_at second.me) }
+    ensures halts { IsAsAtStop C.told C.reason result (stop_at first_halt.me)
+        × IsAsAtStop C.told C.reason result (stop_at second_halt.me) }
 {
     let mut place = first;
     table.shared.join_seat::<Glue>(&mut place, second);

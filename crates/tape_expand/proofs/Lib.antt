@@ -1,5 +1,3 @@
 -- The lemmas of tape_expand, each file by its subject. No other crate takes any.
 mod Answered
-mod ByLines
 mod Counting
-mod Splicing

@@ -15,7 +15,7 @@ use Rattle.cycle_form.specs.Walk.{parts_of}
 use Rattle.tape_expand.specs.declared.fault.ExpandFault.{ExpandFault}
 use Rattle.tape_expand.specs.declared.fault.ExpandFault.TheVariants.{Unreadable, Cycle}
 use Rattle.tape_expand.specs.Replaced.{edits_of}
-use Rattle.tape_expand.specs.Splice.{edited_lines}
+use Rattle.line_edits.specs.Splice.{edited_lines}
 
 -- these parts, if the judgement on their size is that they fit; else its refusal
 abbrev pub fitting_parts : List PartView → Result ⊤ CycleFault → Result (List PartView) CycleFault

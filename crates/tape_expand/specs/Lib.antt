@@ -2,6 +2,5 @@
 -- the text is made that Expansion promises.
 pub mod Faults
 pub mod BlockText
-pub mod Splice
 pub mod Replaced
 pub mod Expansion

@@ -2,7 +2,7 @@
 -- Expansion cites it; Splice says what edits do to a text.
 use Rattle.std.specs.Prelude.{ℕ, List, [], ◌∷◌, map}
 use Rattle.cycle_form.specs.Parts.{PartView}
-use Rattle.tape_expand.specs.declared.edits.Edit.{Edit}
+use Rattle.line_edits.specs.declared.edits.Edit.{Edit}
 use Rattle.tape_expand.specs.BlockText.{part_text}
 
 -- the edit by which a line goes, with its line feed

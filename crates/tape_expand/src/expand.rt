@@ -15,12 +15,12 @@ ghost use Rattle.cycle_form.specs.Parts.{PartView, IsSoundPart};
 ghost use Rattle.cycle_form.specs.Sizes.{size_verdict};
 ghost use Rattle.tape_expand.specs.Expansion.{fitting_parts, sized_parts, parts_of_cycles, parts_of_tape, parts_in, expansion_of, AreClearParts};
 ghost use Rattle.tape_expand.specs.Replaced.{edits_of};
-ghost use Rattle.tape_expand.specs.Splice.{edited_lines};
+ghost use Rattle.line_edits.specs.Splice.{edited_lines};
 
-use crate::edits::edited;
 use crate::fault::ExpandFault;
 use crate::part_text::edits_of;
 use cycle_form::{CycleFault, Part, a_sound_part_is_clear, check_sizes, marks_of, parts_of};
+use line_edits::edited;
 use nc_number::Failing;
 use nc_text::{Program, Reader, Tape, TextFault};
 use std::alloc::{AllocError, Global};

@@ -24,7 +24,7 @@ impl ExpandFault {
     {
         match self {
             ExpandFault::Unreadable(fault) => fault.number,
-            ExpandFault::Cycle(fault) => fault.number(),
+            ExpandFault::Cycle(fault) => fault.cause().number(),
         }
     }
 

@@ -5,11 +5,9 @@
 //! contour of their part.
 #![tactic(auto)]
 
-mod edits;
 mod expand;
 mod fault;
 mod part_text;
 
-pub use edits::Edit;
 pub use expand::expand_tape;
 pub use fault::ExpandFault;

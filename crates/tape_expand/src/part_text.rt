@@ -5,8 +5,8 @@ ghost use Rattle.std.specs.List.{flat_map};
 ghost use Rattle.tape_expand.specs.BlockText.{code_text, axis_text, feed_text, block_text, blocks_text, part_text};
 ghost use Rattle.tape_expand.specs.Replaced.{line_removal, edits_of};
 
-use crate::edits::{Edit, push_all};
 use cycle_form::Part;
+use line_edits::{Edit, push_all};
 use nc_number::{ByteList, Value, length_text, text};
 use rough_cycle::PlainBlock;
 use std::alloc::{AllocError, Global};

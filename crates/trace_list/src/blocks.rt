@@ -58,7 +58,7 @@ fn put_moves<K: Sink>(sink: &mut K, path: Path, line: u32, moves: &[Move]) -> Re
 }
 
 /// Whether one of the moves says the speed of the spindle.
-fn says_speed(moves: &[Move]) -> bool
+pub fn says_speed(moves: &[Move]) -> bool
     ensures { result ≡ says_speed moves.now }
 {
     moves.iter().any(|what| matches!(what, Move::Speed { .. }))

@@ -11,7 +11,9 @@ mod lines;
 mod looking;
 mod tracing;
 
-pub use tracing::write_trace;
+pub use blocks::says_speed;
+pub use looking::{Look, is_same_point, is_same_way, look_of};
+pub use tracing::{homes_of, write_trace};
 
 // For users of the library: laws that no crate of the program takes.
 pub use laws::{

@@ -1,6 +1,6 @@
 //! What a trace looks at between two records: where both paths stand, and what a block changes
 //! without a move. The words are in specs/Trace.antt.
-//! For this crate alone: blocks.rt and tracing.rt use it.
+//! blocks.rt and tracing.rt use it, and who tells the same changes in another form.
 ghost use Rattle.std.specs.Prelude.{◌≡◌};
 ghost use Rattle.nc_number.specs.Both.{of_path};
 ghost use Rattle.two_path.specs.Turns.{tapes_of};
@@ -14,11 +14,11 @@ use two_path::Machine;
 
 /// What blocks of a path change without a move.
 #[derive(Clone, Copy, Debug, PartialEq, Eq)]
-pub(crate) struct Look {
+pub struct Look {
     /// Machine minus work coordinates, in 0.001 mm.
-    pub(crate) shift: Point,
+    pub shift: Point,
     /// Whether the spindle keeps a surface speed.
-    pub(crate) surface: bool,
+    pub surface: bool,
 }
 
 /// What a trace looks at before a record of a path.
@@ -55,7 +55,7 @@ fn keeps_surface_speed(path: &PathState) -> bool
 }
 
 /// What is in force for a path.
-pub(crate) fn look_of(path: &PathState) -> Look
+pub fn look_of(path: &PathState) -> Look
     ensures { result ≡ look_of path.now }
 {
     Look {
@@ -78,14 +78,14 @@ pub(crate) fn standing_of(machine: &Machine, left: &Flow, right: &Flow, path: Pa
 }
 
 /// Whether these are one point.
-pub(crate) fn is_same_point(a: Point, b: Point) -> bool
+pub fn is_same_point(a: Point, b: Point) -> bool
     ensures { result ≡ is_same_point a b }
 {
     a.x == b.x && a.z == b.z
 }
 
 /// Whether a spindle keeps a surface speed both times, or neither time.
-pub(crate) fn is_same_way(a: bool, b: bool) -> bool
+pub fn is_same_way(a: bool, b: bool) -> bool
     ensures { result ≡ is_same_way a b }
 {
     if a { b } else { !b }

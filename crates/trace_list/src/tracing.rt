@@ -39,7 +39,7 @@ fn home_of(settings: &Settings, path: Path) -> Point
 }
 
 /// The reference position of each path.
-fn homes_of(settings: &Settings) -> Both<Point>
+pub fn homes_of(settings: &Settings) -> Both<Point>
     ensures one { result.one ≡ point_of Path.One settings.now.home }
     ensures two { result.two ≡ point_of Path.Two settings.now.home }
 {

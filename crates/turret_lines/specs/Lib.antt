@@ -1,2 +1,3 @@
--- The lines of what a turret got.
+-- The lines of what a turret got (Stream), and those for its waits (Meetings).
+pub mod Meetings
 pub mod Stream

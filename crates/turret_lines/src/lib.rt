@@ -2,10 +2,12 @@
 //! beside a run.
 //!
 //! `LineTurret` writes the line of its place and the lines of its moves, as the report of a run
-//! prints them.
+//! prints them, and between them at which wait its path stands, and that it has met there.
 #![tactic(auto)]
 
 mod line_turret;
+mod meeting_lines;
+mod putting;
 mod told;
 
 pub use line_turret::LineTurret;

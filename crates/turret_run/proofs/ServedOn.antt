@@ -1,29 +1,29 @@
--- The moves of a path's records after one more move of a block, and after a step.
--- The proof of `give_turn` (src/turns.rt) uses it.
-use Rattle.std.proofs.Common.{◌≡◌, ◌+◌, ◌<◌, ℕ, List, [], ◌∷◌, ◌++◌, length, map, take, get_or, ap, sym, ◌∙◌, subst, append_assoc, append-nil}
+-- What a turret was told after one more move of a block, and after a turn.
+-- The proofs of `hand_all` and `give_turn` (src/turns.rt) and of src/rest.rt use it.
+use Rattle.std.proofs.Common.{◌≡◌, ◌+◌, ◌<◌, ℕ, List, [], ◌∷◌, ◌++◌, length, map, take, get_or, refl, ap, sym, ◌∙◌, subst, append_assoc, append-nil}
 use Rattle.std.proofs.lemmas.List.{map-append, take_more}
 use Rattle.nc_moves.specs.declared.motion.Move.{Move}
-use Rattle.nc_outside.specs.declared.halt.Next.{Next}
-use Rattle.nc_outside.specs.declared.lined_move.LinedMove.{LinedMove}
-use Rattle.nc_outside.specs.Calls.{moves_of}
+use Rattle.nc_outside.specs.declared.got.Got.{Got}
+use Rattle.nc_outside.specs.declared.got.Got.TheVariants.{Moved}
 use Rattle.nc_outside.specs.Lined.{lined_move}
-use Rattle.seat_table.specs.Turning.{Records, moves_in, Answers}
-use Rattle.seat_table.proofs.Telling.{answered}
+use Rattle.drive_line.specs.Driving.{DrivenState, Serves}
+use Rattle.seat_table.specs.Turning.{Tellings}
+use Rattle.turret_run.specs.Rests.{ServesOn}
 
--- the moves before a block and its first i, and then its next one, are those with its first i + 1
-block_more : (line : ℕ) (moves : List LinedMove) (list items : List Move) (i : ℕ) (what : Move) → items ≡ list → i < length items → what ≡ get_or items i what
-    → (moves ++ map (lined_move line) (take i list)) ++ lined_move line what ∷ [] ≡ moves ++ map (lined_move line) (take (i + 1) list)
-block_more line moves list items i what same within is =
+-- what was told before a block, its first i moves and then its next one are told with its first i + 1
+pub block_more : (line : ℕ) (told : List Got) (list items : List Move) (i : ℕ) (what : Move) → items ≡ list → i < length items → what ≡ get_or items i what
+    → (told ++ map Moved (map (lined_move line) (take i list))) ++ Moved (lined_move line what) ∷ [] ≡ told ++ map Moved (map (lined_move line) (take (i + 1) list))
+block_more line told list items i what same within is =
     let more : take i list ++ what ∷ [] ≡ take (i + 1) list =
     subst (λ (l : List Move). take i l ++ what ∷ [] ≡ take (i + 1) l) same (ap (λ x. take i items ++ x ∷ []) is ∙ sym (take_more items i what within)) in
-    append_assoc moves (map (lined_move line) (take i list)) (lined_move line what ∷ [])
-    ∙ ap (λ l. moves ++ l) (sym (map-append (lined_move line) (take i list) (what ∷ [])) ∙ ap (map (lined_move line)) more)
+    append_assoc told (map Moved (map (lined_move line) (take i list))) (Moved (lined_move line what) ∷ [])
+    ∙ ap (λ l. told ++ l) (sym (map-append Moved (map (lined_move line) (take i list)) (lined_move line what ∷ []))
+    ∙ ap (map Moved) (sym (map-append (lined_move line) (take i list) (what ∷ [])) ∙ ap (map (lined_move line)) more))
 
--- a turn that answers moves adds them to those of the path's records
-pub moves_behind : (before : Records) (next : Next) (after : Records) (moves : List LinedMove) → moves_of next ≡ moves → Answers before next after
-    → moves_in before ++ moves ≡ moves_in after
-moves_behind before next after moves are a = sym (answered before next after a ∙ ap (λ l. moves_in before ++ l) are)
+-- a turret that is told nothing more has served what was told
+pub nothing_more : (old new : Tellings) (is : DrivenState) → new ≡ old ++ [] → ServesOn old is new is
+nothing_more old new is same = λ start s. subst (λ l. Serves l start is) (sym (same ∙ append-nil old)) s
 
--- a turn that answers no moves leaves those of the path's records
-pub none_behind : (before : Records) (next : Next) (after : Records) → moves_of next ≡ [] → Answers before next after → moves_in before ≡ moves_in after
-none_behind before next after are a = sym (append-nil (moves_in before)) ∙ moves_behind before next after [] are a
+-- nothing behind what was told changes nothing
+pub with_none : (old new : Tellings) (was is : DrivenState) → ServesOn old was new is → ServesOn (old ++ []) was (new ++ []) is
+with_none old new was is s = λ start before. subst (λ l. Serves l start is) (sym (append-nil new)) (s start (subst (λ l. Serves l start was) (append-nil old) before))

@@ -1,7 +1,7 @@
 -- How a run with turrets ends, from what its threads and the turns after them left.
 -- The proofs of `end_of_run` (src/rest.rt), `run_opened` and `run_with_turrets` (src/run.rt) use
 -- it.
-use Rattle.std.proofs.Common.{arith, ◌≡◌, ◌≢◌, ℕ, Bool, true, false, List, [], ◌++◌, drop, take, length, refl, ap, sym, ◌∙◌, subst, Option, Some, None, ⊎_elim, inl, inr}
+use Rattle.std.proofs.Common.{arith, ◌≡◌, ◌≢◌, ℕ, Bool, true, false, List, [], ◌∷◌, ◌++◌, drop, take, length, refl, ap, sym, ◌∙◌, subst, Option, Some, None, ⊎_elim, inl, inr}
 use Rattle.std.specs.Prelude.{IsTrue, IfSome, IfNone, Result, Ok, Err}
 use Rattle.std.proofs.lemmas.List.{drop_all}
 use Rattle.std.proofs.Math.Seq.{take-length, take-append_seam}
@@ -24,17 +24,20 @@ use Rattle.run_records.specs.declared.version.Version.{Version}
 use Rattle.two_path.specs.Machine.{MachineView, position_of}
 use Rattle.two_path.specs.Histories.{fold}
 use Rattle.drive_line.specs.Driving.{DrivenState, has_failed, Serves}
-use Rattle.seat_table.specs.Turning.{moves_in}
+use Rattle.nc_outside.specs.declared.got.Got.TheVariants.{Rested}
+use Rattle.nc_outside.specs.declared.rest.Rest.TheVariants.{End}
+use Rattle.run_table.specs.declared.resting.Resting.{Resting}
+use Rattle.run_table.specs.Draining.{none_resting, rest_told, StandsAsTold}
 use Rattle.run_table.specs.Ending.{IsAtEnd, HasEnded as Ends, HasNotEnded}
-use Rattle.run_table.specs.Holding.{HeldView, held_of, IsOf, ShowsFlushed, MayHoldAgain, answered_from, records_since, without_turret}
+use Rattle.run_table.specs.Holding.{HeldView, held_of, IsOf, ShowsFlushed, MayHoldAgain, answered_from, records_since, told_since, without_turret}
 use Rattle.run_table.specs.Kept.{TableView, tapes_in, opening_of}
-use Rattle.run_table.specs.Made.{shown_from, moves_made}
+use Rattle.run_table.specs.Made.{joined, told_from, told_made}
 use Rattle.run_table.specs.Recording.{RecordingView, Follows}
 use Rattle.run_table.specs.Running.{EndsBy, IsNoneOrAlarm}
 use Rattle.run_table.specs.Since.{Since}
-use Rattle.turret_run.specs.Served.{moves_told, IsPlaced, FailsPlace, GetsAll, GetsPart, FailsAmong, Misses}
+use Rattle.turret_run.specs.Served.{place_told, turret_told, IsPlaced, FailsPlace, GetsAll, GetsPart, FailsAmong, Misses}
 use Rattle.turret_run.specs.Runs.{due_to_turret, due_by_all, GetsAt, GetsBeside, StandsBeside, none_missed, Stays, HasEnded, HasFailed, IsNotPlaced, RunsWith}
-use Rattle.turret_run.specs.Rests.{ArePlaced, FailsAtPlace, IsStillOrFailed, first_by, first_failed, HasCause}
+use Rattle.turret_run.specs.Rests.{ArePlaced, FailsAtPlace, cause_behind, first_by, first_failed, HasCause}
 use Rattle.turret_run.proofs.TurretsGet.{GotBy, placed_part, served, all_of, fails_of, some_of, misses_of, either_of}
 
 -- a recording with these records, so many of which are flushed, with this file and a journal of
@@ -98,13 +101,13 @@ module _ {D : Type 0} (state : D → DiskState) (limit : ℕ) (old ready : Table
   pub due_ready : (path : Path) (new : TableView D) → due_to_turret path ready new ≡ due_to_turret path old new
   due_ready path new =
       ap (λ (m : MachineView). due_to_turret path (record ready { machine = m }) new) stays.machine
-      ∙ ap (λ (n : ℕ). moves_told (position_of path old.machine) (moves_made new.verified path n new.recording.flushed new.recording.history)) (ap length stays.history)
+      ∙ ap (λ (n : ℕ). turret_told (position_of path old.machine) (told_made new.verified path n new.recording.flushed new.recording.history ++ rest_told (of_path new.resting path))) (ap length stays.history)
 
   -- what would be due by all records to a turret of the ready table would be due by the old one
   all_ready : (path : Path) (new : TableView D) → due_by_all path ready new ≡ due_by_all path old new
   all_ready path new =
       ap (λ (m : MachineView). due_by_all path (record ready { machine = m }) new) stays.machine
-      ∙ ap (λ (n : ℕ). moves_told (position_of path old.machine) (moves_made new.verified path n (length new.recording.history) new.recording.history)) (ap length stays.history)
+      ∙ ap (λ (n : ℕ). turret_told (position_of path old.machine) (told_made new.verified path n (length new.recording.history) new.recording.history ++ rest_told (of_path new.resting path))) (ap length stays.history)
 
   -- what stays of the ready table stays of the old one
   stays_ready : (new : TableView D) → Stays ready new → Stays old new
@@ -130,6 +133,7 @@ module _ {D : Type 0} (state : D → DiskState) (limit : ℕ) (old ready : Table
     since = since_ready new r.since;
     ends = ends_ready new end r.ends;
     turrets = λ path. subst (λ what. GetsAt end what (of_path before path) (of_path after path)) (due_ready path new) (r.turrets path);
+    rests = r.rests;
     misses = λ path. subst (λ what. Misses what (of_path missed path) (of_path before path) (of_path after path)) (due_ready path new) (r.misses path);
   }
 
@@ -143,6 +147,7 @@ module _ {D : Type 0} (state : D → DiskState) (limit : ℕ) (old ready : Table
     whole = λ p. sym (all_ready p new) ∙ r.whole p ∙ due_ready p new;
     failed = subst (λ what. FailsAmong what (of_path before path) (of_path after path)) (due_ready path new) r.failed;
     other = subst (λ what. GetsBeside path what (of_path before (other_of path)) (of_path after (other_of path))) (due_ready (other_of path) new) r.other;
+    rests = r.rests;
     misses = λ p. subst (λ what. Misses what (of_path missed p) (of_path before p) (of_path after p)) (due_ready p new) (r.misses p);
   }
 
@@ -170,7 +175,7 @@ module _ {D : Type 0} (state : D → DiskState) (limit : ℕ) (old ready : Table
   runs_ready new before after missed (Ok (reason.TurretFault path)) (inr r) = inr (unplaced_ready new before after missed path r)
   runs_ready new before after missed (Err none) r = record {
     same = stays_ready new r.same;
-    turrets = λ path. subst (λ (m : MachineView). GetsPart (moves_told (position_of path m) []) (of_path before path) (of_path after path)) stays.machine (r.turrets path);
+    turrets = λ path. subst (λ (m : MachineView). GetsPart (place_told (position_of path m)) (of_path before path) (of_path after path)) stays.machine (r.turrets path);
     none = r.none;
   }
 
@@ -217,10 +222,16 @@ calm_stays (Some (halt.Turret path)) may = absurd may
 calm_stays (Some halt.Full) may = absurd may
 calm_stays (Some halt.Budget) may = absurd may
 
--- a table that is held from its opening on has made no record since
-pub none_since : {D : Type 0} (opened : Option (TableView D)) (t : TableView D) (held : HeldView D) → opened ≡ Some t → held ≡ held_of t true → (path : Path) → records_since opened held path ≡ []
-none_since opened t held is held_is path = subst (λ o. records_since o held path ≡ []) (sym is) (subst (λ h. records_since (Some t) h path ≡ []) (sym held_is)
-    (ap (λ l. answered_from (tapes_in t.verified) (fold (tapes_in t.verified) (opening_of t.verified) t.recording.history) path true l) (drop_all (length t.recording.history) t.recording.history (omega arith))))
+-- a table that is held from its opening on has told nothing since, if it had told no turret to rest
+pub none_since : {D : Type 0} (opened : Option (TableView D)) (t : TableView D) (held : HeldView D) → opened ≡ Some t → held ≡ held_of t true → t.resting ≡ none_resting
+    → (path : Path) → told_since opened held path ≡ []
+none_since opened t held is held_is rests path = subst (λ o. told_since o held path ≡ []) (sym is) (subst (λ h. told_since (Some t) h path ≡ []) (sym held_is)
+    (ap (λ l. joined (answered_from (tapes_in t.verified) (fold (tapes_in t.verified) (opening_of t.verified) t.recording.history) path true l) ++ rest_told (of_path t.resting path))
+    (drop_all (length t.recording.history) t.recording.history (omega arith)) ∙ ap (λ (b : Both Resting). [] ++ rest_told (of_path b path)) rests ∙ none_told path))
+  where
+    none_told : (path : Path) → [] ++ rest_told (of_path none_resting path) ≡ []
+    none_told One = refl
+    none_told Two = refl
 
 -- what each turret got in a run, after which the table was taken out
 module _ {D : Type 0} (state : D → DiskState) (opened : Option (TableView D)) (start taken : TableView D) (held : HeldView D) (is : opened ≡ Some start)
@@ -229,33 +240,35 @@ module _ {D : Type 0} (state : D → DiskState) (opened : Option (TableView D)) 
   pub taken_since : Since state start taken
   taken_since = subst (λ o. IsOf state o taken) is of
 
-  -- a turret that was placed and then served the records got what is due but what it missed
-  pub got : (path : Path) (before now : TurretState) (d : DrivenState) → IsPlaced (position_of path start.machine) before now → IsStillOrFailed d.phase
-      → Serves (moves_in (records_since opened held path)) now d → GotBy (has_failed d.phase) d.missed (due_to_turret path start taken) before d.state
-  got path before now d place stands s =
-      let at : Serves (moves_in (records_since (Some start) held path)) now d = subst (λ o. Serves (moves_in (records_since o held path)) now d) is s in
-      let moves = moves_made taken.verified path (length start.recording.history) taken.recording.flushed taken.recording.history in
+  -- a turret that was placed and then served what it was told got what is due but what it missed
+  pub got : taken.resting ≡ held.resting → (path : Path) (before now : TurretState) (d : DrivenState) → IsPlaced (position_of path start.machine) before now
+      → Serves (told_since opened held path ++ Rested End ∷ []) now d → GotBy (has_failed d.phase) d.missed (due_to_turret path start taken) before d.state
+  got rests path before now d place s =
+      let at : Serves (told_since (Some start) held path ++ Rested End ∷ []) now d = subst (λ o. Serves (told_since o held path ++ Rested End ∷ []) now d) is s in
       let told_of = subst (λ o. ShowsFlushed o held taken) is shown path in
-      served (position_of path start.machine) moves before now d place stands (subst (λ ms. Serves ms now d) told_of at)
+      let made = told_made taken.verified path (length start.recording.history) taken.recording.flushed taken.recording.history in
+      let all : told_since (Some start) held path ++ Rested End ∷ [] ≡ (made ++ rest_told (of_path taken.resting path)) ++ Rested End ∷ [] =
+      λ i. (told_of i ++ rest_told (of_path (sym rests i) path)) ++ Rested End ∷ [] in
+      served (position_of path start.machine) ((made ++ rest_told (of_path taken.resting path)) ++ Rested End ∷ []) before now d place (subst (λ l. Serves l now d) all at)
 
-  -- unless the disk failed, the records that are not on the disk make no moves
+  -- unless the disk failed, the records that are not on the disk tell nothing
   pub none_beside : (taken.halt ≢ Some halt.Disk → MayHoldAgain state opened held taken) → taken.halt ≢ Some halt.Disk
       → (path : Path) → due_by_all path start taken ≡ due_to_turret path start taken
   none_beside again calm path =
       let shows = subst (λ o. ShowsFlushed o (held_of taken true) taken) is (again calm).may.shows path in
-      ap (moves_told (position_of path start.machine)) (all_shown taken_since.verified taken_since.made taken_since.recording.history path ∙ shows)
+      ap (λ l. turret_told (position_of path start.machine) (l ++ rest_told (of_path taken.resting path))) (all_shown taken_since.verified taken_since.made taken_since.recording.history path ∙ shows)
     where
       all_shown : taken.verified ≡ start.verified → (made : List Entry) → taken.recording.history ≡ start.recording.history ++ made → (path : Path)
-          → moves_made taken.verified path (length start.recording.history) (length taken.recording.history) taken.recording.history
-          ≡ moves_in (records_since (Some start) (held_of taken true) path)
+          → told_made taken.verified path (length start.recording.history) (length taken.recording.history) taken.recording.history
+          ≡ joined (records_since (Some start) (held_of taken true) path)
       all_shown pair made grown path =
           let from = length start.recording.history in
           let history = taken.recording.history in
           let begins : take from history ≡ start.recording.history = ap (take from) grown ∙ take-append_seam start.recording.history made in
-          λ i. moves_in (shown_from (tapes_in (pair i)) (fold (tapes_in (pair i)) (opening_of (pair i)) (begins i)) path (drop from (take-length history i)))
+          λ i. joined (told_from (tapes_in (pair i)) (fold (tapes_in (pair i)) (opening_of (pair i)) (begins i)) path (drop from (take-length history i)))
 
--- a turret that was placed and got no move got no more than its place
-pub placed_only : (m : MachineView) (before now : Both TurretState) → ArePlaced m before now → (path : Path) → GetsPart (moves_told (position_of path m) []) (of_path before path) (of_path now path)
+-- a turret that was placed and got no move got no more than its place and the rest there
+pub placed_only : (m : MachineView) (before now : Both TurretState) → ArePlaced m before now → (path : Path) → GetsPart (place_told (position_of path m)) (of_path before path) (of_path now path)
 placed_only m before now placed path = placed_part (position_of path m) (of_path before path) (of_path now path) (placed path)
 
 -- a turret failed at its place, and nothing else was done
@@ -294,6 +307,35 @@ module _ {D : Type 0} (held : HeldView D) where
   has_cause (Some reason.Stopped) (Some path) ends on = (no_disk None ends.0, ends.0.live, refl)
   has_cause (Some (reason.TurretFault path)) failed ends on = absurd ends
 
+-- the cause that is told once more turrets may have failed
+module _ {D : Type 0} (held : HeldView D) where
+  -- a held table that has ended by another cause has no fault of the disk, and its journal may be
+  -- written, so a turret that failed is the cause
+  turret_behind : (end : Option Reason) (path : Path) → IsAtEnd held end → HasCause held (Some path) (reason.TurretFault path)
+  turret_behind end path at = (no_disk held end at, at.live, refl)
+
+  -- the cause behind another fault is the first still
+  pub cause_on : (old new : Option Path) (end : Reason) → (old ≢ None → new ≢ None) → HasCause held old end → HasCause held new (cause_behind end new)
+  cause_on old new reason.DiskFault more cause = (cause.0, λ other. absurd (other refl))
+  cause_on old (Some path) (reason.TurretFault which) more cause = (cause.0, cause.1, refl)
+  cause_on old None (reason.TurretFault which) more cause = absurd (more (λ none. let clash : Some which ≡ None = sym cause.2 ∙ none in cc) refl)
+  cause_on old (Some path) reason.Done more cause = turret_behind (Some reason.Done) path cause.0
+  cause_on old None reason.Done more cause = (cause.0, λ other. refl)
+  cause_on old (Some path) (reason.Alarm alarm) more cause = turret_behind (Some (reason.Alarm alarm)) path cause.0
+  cause_on old None (reason.Alarm alarm) more cause = (cause.0, λ other. refl)
+  cause_on old (Some path) reason.Full more cause = turret_behind None path cause.0.0
+  cause_on old None reason.Full more cause = (cause.0, λ other. refl)
+  cause_on old (Some path) reason.Stopped more cause = turret_behind None path cause.0.0
+  cause_on old None reason.Stopped more cause = (cause.0, λ other. refl)
+
+-- if a turret had failed, one has failed still, where none that failed works again
+pub failed_on : (one two one' two' : Bool) → (one ≡ true → one' ≡ true) → (two ≡ true → two' ≡ true) → first_by one two ≢ None → first_by one' two' ≢ None
+failed_on one two true two' first second had is = cc
+failed_on one two false true first second had is = cc
+failed_on true two false false first second had is = absurd (let clash : false ≡ true = first refl in cc)
+failed_on false true false false first second had is = absurd (let clash : false ≡ true = second refl in cc)
+failed_on false false false false first second had is = absurd (had refl)
+
 -- if no cause is told, no turret failed
 pub none_left : (end : Option Reason) (failed : Option Path) → IfNone (first_cause end failed) (failed ≡ None)
 none_left None None = refl
@@ -314,6 +356,7 @@ none_left (Some (reason.TurretFault which)) (Some path) = tt
 module _ {D : Type 0} (state : D → DiskState) (start taken : TableView D) (since : Since state start taken) (held : HeldView D) (before after : Both TurretState) (failed : Both Bool) (missed : Both ℕ)
     (ends : (end : Reason) → Ends held end → EndsBy state start taken end) (halt_is : taken.halt ≡ without_turret held.halt) (file_is : taken.recording.log.file ≡ held.file)
     (whole : taken.halt ≢ Some halt.Disk → (path : Path) → due_by_all path start taken ≡ due_to_turret path start taken)
+    (stands : taken.halt ≢ Some halt.Disk → (path : Path) → StandsAsTold taken.verified taken.machine path (of_path taken.resting path))
     (gots : (path : Path) → GotBy (of_path failed path) (of_path missed path) (due_to_turret path start taken) (of_path before path) (of_path after path)) where
   -- each turret missed what it did not get
   misses : (path : Path) → Misses (due_to_turret path start taken) (of_path missed path) (of_path before path) (of_path after path)
@@ -359,7 +402,7 @@ module _ {D : Type 0} (state : D → DiskState) (start taken : TableView D) (sin
   -- a run that ended by its table, for which no turret failed unless the disk did, ended as
   -- `HasEnded` says
   run_ended : (end : Reason) → Ends held end × (end ≢ reason.DiskFault → first_failed failed ≡ None) → HasEnded state start.budget start taken before after missed end
-  run_ended end cause = record { since = since; ends = ends end cause.0; turrets = ended_at end cause.1; misses = misses }
+  run_ended end cause = record { since = since; ends = ends end cause.0; turrets = ended_at end cause.1; rests = stands; misses = misses }
 
   -- a run that ended by its table or by a turret ended as `RunsWith` says
   pub run_ends : (end : Reason) → HasCause held (first_failed failed) end → RunsWith state start.budget start taken before after missed (Ok end)
@@ -379,5 +422,6 @@ module _ {D : Type 0} (state : D → DiskState) (start taken : TableView D) (sin
         whole = whole disk;
         failed = fails.0;
         other = fails.1;
+        rests = stands disk;
         misses = misses;
       })

@@ -2,7 +2,7 @@
 -- threads keep.
 -- No other crate cites it. src/placing.rt, rest.rt and run.rt do, and `ServesOn` stands in the
 -- contract of the public `give_turn` (src/turns.rt).
-use Rattle.std.specs.Prelude.{◌≡◌, ◌≢◌, ◌⊎◌, Bool, true, false, IsTrue, Option, Some, None}
+use Rattle.std.specs.Prelude.{◌≡◌, ◌≢◌, Bool, ◌++◌, true, false, IsTrue, Option, Some, None}
 use Rattle.nc_number.specs.declared.both.Both.{Both}
 use Rattle.nc_number.specs.declared.path.Path.{Path}
 use Rattle.nc_number.specs.declared.path.Path.TheVariants.{One, Two}
@@ -10,10 +10,10 @@ use Rattle.nc_number.specs.Both.{both_of, of_path}
 use Rattle.nc_number.specs.Path.{other_of}
 use Rattle.nc_outside.specs.declared.halt.Halt.TheVariants.{Disk}
 use Rattle.nc_outside.specs.Received.{TurretState}
-use Rattle.drive_line.specs.declared.phase.Phase.{Phase}
-use Rattle.drive_line.specs.declared.phase.Phase.TheVariants.{Still}
 use Rattle.drive_line.specs.Driving.{DrivenState, has_failed, Serves}
-use Rattle.seat_table.specs.Turning.{Records, moves_in}
+use Rattle.seat_table.specs.Turning.{Tellings}
+use Rattle.path_worker.specs.declared.worker.Why.{Why}
+use Rattle.path_worker.specs.Work.{told_at_end}
 use Rattle.nc_outside.specs.declared.reason.Reason.{Reason}
 use Rattle.nc_outside.specs.declared.reason.Reason.TheVariants as reason
 use Rattle.two_path.specs.Machine.{MachineView, position_of}
@@ -33,13 +33,13 @@ FailsAtPlace m before after path =
     FailsPlace (position_of path m) (of_path before path) (of_path after path)
     × StandsBeside path (position_of (other_of path) m) (of_path before (other_of path)) (of_path after (other_of path))
 
--- a turret that had served the moves of the old records has served those of the new ones
-abbrev pub ServesOn : Records → DrivenState → Records → DrivenState → Type 0
-ServesOn old was new is = (start : TurretState) → Serves (moves_in old) start was → Serves (moves_in new) start is
+-- a turret that had served the old tellings has served the new ones
+abbrev pub ServesOn : Tellings → DrivenState → Tellings → DrivenState → Type 0
+ServesOn old was new is = (start : TurretState) → Serves old start was → Serves new start is
 
--- a turret stands still, or it failed
-abbrev pub IsStillOrFailed : Phase → Type 0
-IsStillOrFailed phase = (phase ≡ Still) ⊎ (has_failed phase ≡ true)
+-- the same, with what the turret was told at the end of its path behind the tellings, if that has ended
+abbrev pub ServesBehind : Why → Tellings → DrivenState → Tellings → DrivenState → Type 0
+ServesBehind why old was new is = ServesOn (old ++ told_at_end why) was (new ++ told_at_end why) is
 
 -- which turrets have failed
 abbrev pub who_failed : Both DrivenState → Both Bool
@@ -55,6 +55,13 @@ first_by false false = None
 -- the path whose turret failed, or none; path 1 if both failed
 abbrev pub first_failed : Both Bool → Option Path
 first_failed failed = first_by failed.one failed.two
+
+-- the first cause, once more turrets may have failed: a fault of the disk, or else the turret that
+-- failed, or else the cause from before
+abbrev pub cause_behind : Reason → Option Path → Reason
+cause_behind reason.DiskFault failed = reason.DiskFault
+cause_behind end (Some path) = reason.TurretFault path
+cause_behind end None = end
 
 -- Why no turn is given any more, for a held table and the path whose turret failed, if one did: by
 -- the first of these causes, a fault of the disk, that turret, or another end of the run.

@@ -1,6 +1,6 @@
 -- What a run with turrets comes to: its end, its records, and what each turret got and missed. The
 -- contracts of src/run.rt and src/placing.rt and Rests cite it.
-use Rattle.std.specs.Prelude.{◌≡◌, ◌≢◌, ◌⊎◌, ℕ, List, [], length, Some, Result, Ok, Err}
+use Rattle.std.specs.Prelude.{◌≡◌, ◌≢◌, ◌⊎◌, ℕ, List, ◌++◌, length, Some, Result, Ok, Err}
 use Rattle.disk_model.specs.Device.{DiskState}
 use Rattle.nc_number.specs.declared.both.Both.{Both}
 use Rattle.nc_number.specs.declared.fault.NoMemory.{NoMemory}
@@ -16,22 +16,26 @@ use Rattle.nc_outside.specs.declared.reason.Reason.{Reason}
 use Rattle.nc_outside.specs.declared.reason.Reason.TheVariants as reason
 use Rattle.two_path.specs.Machine.{position_of}
 use Rattle.run_table.specs.Kept.{TableView}
-use Rattle.run_table.specs.Made.{moves_made}
+use Rattle.run_table.specs.Draining.{rest_told, StandsAsTold}
+use Rattle.run_table.specs.Made.{told_made}
 use Rattle.run_table.specs.Running.{EndsBy}
 use Rattle.run_table.specs.Since.{Since}
-use Rattle.turret_run.specs.Served.{moves_told, IsPlaced, FailsPlace, GetsAll, GetsPart, GetsSome, FailsAmong, Misses}
+use Rattle.turret_run.specs.Served.{place_told, turret_told, IsPlaced, FailsPlace, GetsAll, GetsPart, GetsSome, FailsAmong, Misses}
 
--- What is due to the turret of a path: its place at the beginning, and the moves of the path's
--- records since then that are on the disk at the end.
+-- What is due to the turret of a path: its place at the beginning and a rest there; then, record by
+-- record, the moves of the path's records since then that are on the disk at the end, and before each
+-- of their waits a rest; a rest more if it was told to rest for a wait that is not recorded yet; and a
+-- rest at the end.
 abbrev pub due_to_turret : {D : Type 0} → Path → TableView D → TableView D → List Got
-due_to_turret path old new = moves_told (position_of path old.machine)
-    (moves_made new.verified path (length old.recording.history) new.recording.flushed new.recording.history)
+due_to_turret path old new = turret_told (position_of path old.machine)
+    (told_made new.verified path (length old.recording.history) new.recording.flushed new.recording.history
+    ++ rest_told (of_path new.resting path))
 
--- What would be due to the turret of a path if all records were on the disk: its place at the
--- beginning, and the moves of all records of the path since then.
+-- What would be due to the turret of a path if all records were on the disk.
 abbrev pub due_by_all : {D : Type 0} → Path → TableView D → TableView D → List Got
-due_by_all path old new = moves_told (position_of path old.machine)
-    (moves_made new.verified path (length old.recording.history) (length new.recording.history) new.recording.history)
+due_by_all path old new = turret_told (position_of path old.machine)
+    (told_made new.verified path (length old.recording.history) (length new.recording.history) new.recording.history
+    ++ rest_told (of_path new.resting path))
 
 -- What a turret got at an end of the run that is no fault of a turret: all that is due. If the disk
 -- failed, it got a prefix of that, and may have failed too.
@@ -85,7 +89,10 @@ module _ {D : Type 0} (state : D → DiskState) (limit : ℕ) (old new : TableVi
     pub ends : EndsBy state old new end
     -- what each turret got of what is due to it
     pub turrets : (path : Path) → GetsAt end (due_to_turret path old new) (of_path before path) (of_path after path)
-    -- how much of what is due each turret missed
+    -- unless the disk failed, a turret that was told to rest for a wait that is not recorded was told so
+    -- for the wait before which its path stands
+    pub rests : new.halt ≢ Some Disk → (path : Path) → StandsAsTold new.verified new.machine path (of_path new.resting path)
+    -- how many moves of what is due each turret missed
     pub misses : (path : Path) → Misses (due_to_turret path old new) (of_path missed path) (of_path before path) (of_path after path)
 
   -- A turret failed after both turrets had got their places, and no call of the disk failed.
@@ -96,13 +103,16 @@ module _ {D : Type 0} (state : D → DiskState) (limit : ℕ) (old new : TableVi
     pub disk : new.halt ≢ Some Disk
     -- no call of the disk failed
     pub calm : (state new.recording.log.file.disk).faults ≡ (state old.recording.log.file.disk).faults
-    -- the records that are not on the disk make no moves: with them no more is due to either turret
+    -- the records that are not on the disk tell nothing: with them no more is due to either turret
     pub whole : (p : Path) → due_by_all p old new ≡ due_to_turret p old new
     -- the turret of this path got its place and a prefix of what is due to it, and failed
     pub failed : FailsAmong (due_to_turret path old new) (of_path before path) (of_path after path)
     -- what the other turret got
     pub other : GetsBeside path (due_to_turret (other_of path) old new) (of_path before (other_of path)) (of_path after (other_of path))
-    -- how much of what is due each turret missed
+    -- a turret that was told to rest for a wait that is not recorded was told so for the wait before
+    -- which its path stands
+    pub rests : (p : Path) → StandsAsTold new.verified new.machine p (of_path new.resting p)
+    -- how many moves of what is due each turret missed
     pub misses : (p : Path) → Misses (due_to_turret p old new) (of_path missed p) (of_path before p) (of_path after p)
 
   -- A turret failed at its place, or in coming to stand still there: the table is as it was, no
@@ -127,7 +137,7 @@ module _ {D : Type 0} (state : D → DiskState) (limit : ℕ) (old new : TableVi
     -- the table is as it was
     pub same : Stays old new
     -- each turret got its place at most
-    pub turrets : (path : Path) → GetsPart (moves_told (position_of path old.machine) []) (of_path before path) (of_path after path)
+    pub turrets : (path : Path) → GetsPart (place_told (position_of path old.machine)) (of_path before path) (of_path after path)
     -- no move was missed
     pub none : missed ≡ none_missed
 

@@ -3,15 +3,16 @@
 //!
 //! `run_with_turrets` gives each turret its place, at which both stand still before the first
 //! record, and then, in order and a call each, just the moves of its path's records that the run
-//! made. If the turret or the disk failed it gives a prefix of them, and how many the turret missed
-//! is told. The layer above leans on that, and on the first of the causes that hold together: a
+//! made, before each wait of these records a rest, and at the end a rest. If the turret or the disk
+//! failed it gives a prefix of that, and how many moves the turret missed is told. The layer above leans on that, and on the first of the causes that hold together: a
 //! fault of the disk, a fault of a turret, and then as a run of two paths ends. Before a turret is
 //! placed the threads of the run are tried.
 //!
 //! It runs both paths by `run_pair`: each has a worker, which steps it from its seat, and a drive,
 //! which hands its moves to its turret. The turns that are left then are given one by one, in the
-//! caller's thread, by `give_turn`. After both, each turret took the moves of its path's records,
-//! all of them, or those before the point at which it failed.
+//! caller's thread, by `give_turn`. A turret is told to rest at its end where its path has ended, and
+//! else behind these turns. After that each turret got all that its path's records tell, or what
+//! comes before the point at which it failed.
 #![tactic(auto)]
 
 mod crossing;

@@ -1,17 +1,16 @@
 //! Both paths at once: a worker and a drive for each, in four threads. What they leave undone is in
 //! rest.rt. For run.rt of this crate.
-ghost use Rattle.std.specs.Prelude.{◌≡◌, [], true, IfOk, IfErr, IsTrue, is_some};
+ghost use Rattle.std.specs.Prelude.{◌≡◌, [], ◌++◌, true, IfOk, IfErr, IsTrue, is_some};
 ghost use Rattle.nc_number.specs.declared.path.Path.{Path as OnePath};
 ghost use Rattle.nc_number.specs.declared.path.Path.TheVariants.{One, Two};
 ghost use Rattle.drive_line.specs.Driving.{has_failed, Serves};
-ghost use Rattle.path_worker.specs.Drive.{HasSettled};
-ghost use Rattle.seat_table.specs.Turning.{moves_in};
+ghost use Rattle.path_worker.specs.Work.{told_at_end};
 ghost use Rattle.turret_run.specs.Seats.{AreNewEnds, AreOf, AreFresh, StopsBy};
 
 use drive_line::{Driven, Line, LineIn, LineOut};
 use nc_number::{Both, Path};
 use nc_outside::Turret;
-use path_worker::{Lane, run_lane};
+use path_worker::{Lane, Why, run_lane};
 use seat_table::{HaltPass, SeatPass, SeatTable, Seated, Turns};
 use std::alloc::Global;
 use std::sync::Wait;
@@ -28,6 +27,8 @@ pub struct Ran<C: Turns, T: Turret> {
     pub table: C,
     /// Each turret, with what it took and missed.
     pub turrets: Both<Driven<T>>,
+    /// Why the worker of each path ended. A turret whose path has ended was told so.
+    pub whys: Both<Why>,
 }
 
 /// What comes back if there is no memory for a run: the table and the turrets as they were.
@@ -48,6 +49,8 @@ struct Seat<C, T: Turret> {
     halter: HaltPass<C>,
     /// The turret, with what it took and missed.
     driven: Driven<T>,
+    /// Why the worker ended.
+    why: Why,
 }
 
 /// Runs the worker and the drive of a path, over its passes and the two ends of a new line. Gives
@@ -67,8 +70,7 @@ where
     requires line { AreNewEnds ends.0 ends.1 }
     requires passes { AreFresh table.now path passes.0 passes.1 }
     ensures passes { AreOf table.now path result.pass result.halter }
-    ensures serves { Serves (moves_in result.pass.records) (T.state turret) result.driven }
-    ensures rest { HasSettled result.driven.phase }
+    ensures serves { Serves (result.pass.told ++ told_at_end result.why) (T.state turret) result.driven }
     ensures halted { has_failed result.driven.phase ≡ true → IsTrue (is_some result.halter.stop) }
 {
     let (pass, halter) = passes;
@@ -82,6 +84,7 @@ where
         pass: end.stepper.into_pass(),
         halter: end.halter.into_pass(),
         driven: end.driven,
+        why: end.why,
     }
 }
 
@@ -100,9 +103,10 @@ where
     requires lines { AreNewEnds ends.one.0 ends.one.1 × AreNewEnds ends.two.0 ends.two.1 }
     requires passes { AreFresh seated.table One seated.first seated.first_halt
         × AreFresh seated.table Two seated.second seated.second_halt }
-    ensures one { Serves (moves_in (C.records result.table One)) (T.state turrets.one) result.turrets.one }
-    ensures two { Serves (moves_in (C.records result.table Two)) (T.state turrets.two) result.turrets.two }
-    ensures rest { HasSettled result.turrets.one.phase × HasSettled result.turrets.two.phase }
+    ensures one { Serves (C.told result.table One ++ told_at_end result.whys.one)
+        (T.state turrets.one) result.turrets.one }
+    ensures two { Serves (C.told result.table Two ++ told_at_end result.whys.two)
+        (T.state turrets.two) result.turrets.two }
     ensures halted { StopsBy result.turrets.one.phase (C.reason result.table)
         × StopsBy result.turrets.two.phase (C.reason result.table) }
 {
@@ -127,15 +131,13 @@ where
         move || -> Seat<C, T>
             requires { AreNewEnds first_ends.0 first_ends.1 × AreFresh both.now One first first_halt }
             ensures passes { AreOf both.entry.now One result.pass result.halter }
-            ensures serves { Serves (moves_in result.pass.records) (T.state left) result.driven }
-            ensures rest { HasSettled result.driven.phase }
+            ensures serves { Serves (result.pass.told ++ told_at_end result.why) (T.state left) result.driven }
             ensures halted { has_failed result.driven.phase ≡ true → IsTrue (is_some result.halter.stop) }
         { run_seat(rt, both, Path::One, first_ends, (first, first_halt), left) },
         move || -> Seat<C, T>
             requires { AreNewEnds second_ends.0 second_ends.1 × AreFresh both.now Two second second_halt }
             ensures passes { AreOf both.entry.now Two result.pass result.halter }
-            ensures serves { Serves (moves_in result.pass.records) (T.state right) result.driven }
-            ensures rest { HasSettled result.driven.phase }
+            ensures serves { Serves (result.pass.told ++ told_at_end result.why) (T.state right) result.driven }
             ensures halted { has_failed result.driven.phase ≡ true → IsTrue (is_some result.halter.stop) }
         {
             run_seat(
@@ -155,13 +157,18 @@ where
             one: one.driven,
             two: two.driven,
         },
+        whys: Both {
+            one: one.why,
+            two: two.why,
+        },
     }
 }
 
 /// Runs both paths of a table that has made no record since it was opened, until each path has
 /// ended or the run has stopped: a worker and a drive for each, in four threads. After it each
-/// turret has taken the moves of its path's records, and stands still; the table gives those
-/// records since it was opened. Or the turret failed, and then the table has halted.
+/// turret has got what the table was answered for it since it was opened, moves and rests in order,
+/// and then a rest at the end of its path if the path has ended. Or the turret failed, and then the
+/// table has halted.
 ///
 /// If memory runs out nothing is done, and all comes back. If no thread can be made it may not
 /// return.
@@ -175,10 +182,11 @@ where
     R: Threads + Wait + Sync,
     C: Turns + Send,
     T: Turret + Send,
-    requires fresh { (p : OnePath) → C.records table p ≡ [] }
-    ensures one { IfOk result (λ r. Serves (moves_in (C.records r.table One)) (T.state turrets.one) r.turrets.one) }
-    ensures two { IfOk result (λ r. Serves (moves_in (C.records r.table Two)) (T.state turrets.two) r.turrets.two) }
-    ensures rest { IfOk result (λ r. HasSettled r.turrets.one.phase × HasSettled r.turrets.two.phase) }
+    requires fresh { (p : OnePath) → C.told table p ≡ [] }
+    ensures one { IfOk result (λ r. Serves (C.told r.table One ++ told_at_end r.whys.one)
+        (T.state turrets.one) r.turrets.one) }
+    ensures two { IfOk result (λ r. Serves (C.told r.table Two ++ told_at_end r.whys.two)
+        (T.state turrets.two) r.turrets.two) }
     ensures halted { IfOk result (λ r. StopsBy r.turrets.one.phase (C.reason r.table)
         × StopsBy r.turrets.two.phase (C.reason r.table)) }
     ensures err { IfErr result (λ u. (u.table ≡ table) × (u.turrets ≡ turrets)) }

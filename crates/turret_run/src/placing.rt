@@ -3,19 +3,21 @@
 //! For run.rt of this crate.
 ghost use Rattle.std.specs.Prelude.{◌≡◌, IfErr, OnErr, OnOk};
 ghost use Rattle.nc_number.specs.Both.{both_of};
+ghost use Rattle.run_table.specs.Draining.{none_resting};
 ghost use Rattle.turret_run.specs.Runs.{Stays};
 ghost use Rattle.turret_run.specs.Rests.{ArePlaced, FailsAtPlace};
 ghost use Rattle.turret_run.specs.Served.{IsPlaced, FailsPlace};
 
 use disk_model::Disk;
 use nc_number::{Both, Failed, NoMemory, Path, Point};
-use nc_outside::Turret;
+use nc_outside::{Rest, Turret};
 use run_table::Table;
 
-/// Gives leave for so many records, and makes room for them, or answers `NoMemory`. All else of the
-/// table stays as it was.
+/// Gives leave for so many records, and makes room for them, or answers `NoMemory`. No turret counts as
+/// told to rest for a wait then. All else of the table stays as it was.
 pub(crate) fn make_ready<D: Disk>(table: &mut Table<D>, limit: u32) -> Result<(), NoMemory>
     ensures budget { OnOk result (table.new.budget ≡ limit) }
+    ensures rests { OnOk result (table.new.resting ≡ none_resting) }
     ensures same { Stays table.old table.new }
 {
     table.prepare(limit)
@@ -29,7 +31,7 @@ fn take_place<T: Turret>(turret: &mut T, at: Point) -> Result<(), Failed>
     if let Err(fault) = turret.place(at) {
         return Err(fault);
     }
-    if let Err(fault) = turret.settle() {
+    if let Err(fault) = turret.settle(Rest::Place) {
         return Err(fault);
     }
     Ok(())

@@ -1,6 +1,7 @@
 //! A run of an opened table with its turrets: they are placed, both paths run in threads, the turns
 //! that are left are given, and the table and the turrets come back.
 ghost use Rattle.std.specs.Prelude.{◌≡◌, length, Some, None, Err};
+ghost use Rattle.run_table.specs.Draining.{none_resting};
 ghost use Rattle.run_table.specs.Running.{MayRun, IsNoneOrAlarm};
 ghost use Rattle.two_path.specs.Ending.{end_of};
 ghost use Rattle.nc_number.specs.declared.both.Both.{Both};
@@ -13,7 +14,7 @@ use crate::crossing::held_crosses;
 use crate::ending::TurretRun;
 use crate::pair::{Ran, Unrun, run_pair};
 use crate::placing::{make_ready, place_both};
-use crate::rest::give_rest;
+use crate::rest::{give_rest, tell_ends};
 use crate::threads::can_make_threads;
 use disk_model::Disk;
 use drive_line::Driven;
@@ -26,7 +27,7 @@ use std::sync::Wait;
 use std::thread::Threads;
 
 /// Runs both paths of the opened table, and then gives the turns that are left. Both turrets must
-/// be placed. Gives back the table and the turrets, and why the run ended, or that it did not begin
+/// be placed; at the end both are told to rest. Gives back the table and the turrets, and why the run ended, or that it did not begin
 /// since memory ran out.
 fn run_opened<O, R, D, T>(
     rt: &R,
@@ -42,6 +43,7 @@ where
     requires opening { O.opened ≡ Some table }
     requires halt { IsNoneOrAlarm table.halt }
     requires all { table.recording.flushed ≡ length table.recording.history }
+    requires rests { table.resting ≡ none_resting }
     ensures run { (start : Both TurretState) → ArePlaced table.machine start (both_of T.state turrets)
         → RunsWith D.state table.budget table result.table start (both_of T.state result.turrets)
         result.missed result.end }
@@ -54,8 +56,10 @@ where
             let Ran {
                 mut table,
                 mut turrets,
+                whys,
             } = ran;
-            let end = give_rest(rt, &mut table, &mut turrets);
+            let end = give_rest(rt, &mut table, &mut turrets, &whys);
+            let end = tell_ends(&mut turrets, &whys, end);
             let missed = who_missed(&turrets);
             TurretRun {
                 table: table.into_table(),

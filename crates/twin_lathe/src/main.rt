@@ -46,7 +46,7 @@ fn main(rt: HostRuntime) -> Ending {
     }
     let mut shelf = FileShelf::new(&rt);
     let mut out = StdSink::new(&rt);
-    let access = access_of(&command, words);
+    let access = access_of(&command);
     let outcome = top(
         &rt,
         rt.alloc(),
@@ -66,12 +66,12 @@ fn main(rt: HostRuntime) -> Ending {
     end
 }
 
-/// Whether the command of these words writes the journal, goes on with it, or only looks at it.
-fn access_of(command: &Option<Command>, words: &[String]) -> Access {
+/// Whether the command writes the journal, goes on with it, or only looks at it.
+fn access_of(command: &Option<Command>) -> Access {
     if let Some(Command::Resume(_, _)) = command {
         return Access::Continue;
     }
-    match journal_of(words) {
+    match journal_of(command) {
         Journal::Write => Access::Write,
         Journal::None | Journal::Look => Access::Look,
     }

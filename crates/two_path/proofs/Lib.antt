@@ -1,10 +1,10 @@
--- The lemmas of two_path, each file by its subject. Other crates use Folds, Edited, NoCrossing,
--- Paired, Apart, DoneAgain and Replays.
+-- The lemmas of two_path, each file by its subject. Other crates use Folds, Edited, Lawful, Recorded,
+-- NoCrossing, Paired, Apart, DoneAgain and Replays.
 mod Idle
 pub mod Folds
 pub mod Edited
-mod Lawful
-mod Recorded
+pub mod Lawful
+pub mod Recorded
 mod Scheduled
 mod Counted
 mod Kept

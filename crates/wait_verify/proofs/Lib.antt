@@ -5,4 +5,8 @@ pub mod Pieces
 pub mod NotBoth
 pub mod OneRefusal
 pub mod SomeAnswer
+pub mod Positions
+pub mod OneTold
+pub mod Whole
 pub mod Widened
+pub mod NamedBySigns

@@ -8,12 +8,12 @@ use Rattle.wait_verify.specs.Printed.{meetings_text}
 two : (old a b x y : List ℕ) → x ≡ old ++ a → y ≡ x ++ b → y ≡ old ++ (a ++ b)
 two old a b x y first second = second ∙ ap (λ (l : List ℕ). l ++ b) first ∙ append_assoc old a b
 
--- Three pieces that are added one after another, of which adding the last may fail, are added as
--- one.
-pub three : {T E : Type 0} (result : Result T E) (old a b c x y z : List ℕ) → x ≡ old ++ a → y ≡ x ++ b
-    → OnOk result (z ≡ y ++ c) → OnOk result (z ≡ old ++ ((a ++ b) ++ c))
-three (Ok done) old a b c x y z first second third = two old (a ++ b) c y z (two old a b x y first second) third
-three (Err fault) old a b c x y z first second third = tt
+-- Four pieces that are added one after another, of which adding the last may fail, are added as one.
+pub four : {T E : Type 0} (result : Result T E) (old a b c d x y z w : List ℕ) → x ≡ old ++ a → y ≡ x ++ b → z ≡ y ++ c
+    → OnOk result (w ≡ z ++ d) → OnOk result (w ≡ old ++ (((a ++ b) ++ c) ++ d))
+four (Ok done) old a b c d x y z w first second third last =
+    two old ((a ++ b) ++ c) d z w (two old (a ++ b) c y z (two old a b x y first second) third) last
+four (Err fault) old a b c d x y z w first second third last = tt
 
 -- Behind the last label of the shorter list no line follows.
 pub no_more : (left right : List Labelled) (n : ℕ) → min (length left) (length right) ≤ n

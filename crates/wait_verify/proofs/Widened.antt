@@ -1,8 +1,10 @@
 -- A pair of plain texts that `verify` accepts is accepted for its waits too: from a block to a
 -- program, a tape, and a pair. What is plain is in specs/Widening. For the law
 -- `what_a_run_accepts_is_accepted` (src/laws.rt).
-use Rattle.std.proofs.Common.{◌≡◌, ℕ, suc, ◌*◌, Bool, true, false, not, ◌&&◌, ◌||◌, cond, codes, List, [], ◌∷◌, ◌++◌, map, Option, Some, None, Result, Ok, Err, refl, ap, sym, ◌∙◌, subst, All, ℤ, pos}
+use Rattle.std.proofs.Common.{◌≡◌, ℕ, suc, ◌-◌, ◌*◌, bit_and, bit_or, slice_index, Bool, true, false, not, ◌&&◌, ◌||◌, cond, codes, List, [], ◌∷◌, ◌++◌, map, Option, Some, None, Result, Ok, Err, refl, ap, sym, ◌∙◌, subst, All, ℤ, pos}
+use Rattle.std.specs.Int.Bits.{and_zero_r, or_zero_r}
 use Rattle.std.specs.List.{list_any, filter_map}
+use Rattle.std.proofs.lemmas.Nat.{and_comm}
 use Rattle.std.proofs.lemmas.List.{map-append}
 use Rattle.std.proofs.lemmas.List.Elements.{All-nil, All-cons, All-head, All-tail}
 use Rattle.nc_number.specs.Results.{◌>>=◌}
@@ -50,10 +52,14 @@ use Rattle.tape_flow.specs.Forms as full
 use Rattle.tape_flow.specs.Forms.{ProgramForm}
 use Rattle.nc_verify.specs.Verdict as run
 use Rattle.nc_verify.specs.Verdict.{IsFlowOf, Texts, skips_of, dialect_in}
-use Rattle.open_order.specs.Contours.{blocks_fault, contour_fault, contour_in, has_code, is_cycle_code, is_macro_code}
-use Rattle.wait_verify.specs.Verdict.{IsOrderOf}
+use Rattle.open_order.specs.Contours.{or_later, blocks_fault, contour_fault, contour_in, has_code, is_cycle_code, is_macro_code}
+use Rattle.wait_verify.specs.declared.switches.TheConstants.{LAST_POSITION}
+use Rattle.wait_verify.specs.Asked.{Asked, question_of}
+use Rattle.wait_verify.specs.Switches.{cell_at, cell_or_line, switches_at}
+use Rattle.wait_verify.specs.Verdict.{IsOrderOf, Judged, AreAcceptedAt, AreAcceptedTo}
+use Rattle.wait_verify.proofs.Positions.{none_free}
 use Rattle.wait_verify.specs.Widening.{ArePlain, IsPlainBlock, IsPlainText, IsWidened}
-use Rattle.open_order.specs.Reading.{Basis, settled_control, at_line, block_read, blocks_from, program_read, programs_from}
+use Rattle.open_order.specs.Reading.{Basis, settled_control, at_line, block_read, blocks_from, program_read, programs_from, programs_read}
 
 -- The law of open_forms on blocks: one that reads in full leads where it leads for its waits.
 abbrev pub BlockLaw : Type 0
@@ -285,11 +291,11 @@ none_in_blocks dialect (block ∷ blocks) done forms e =
     go (Ok form) is f later = All-cons HasNone block blocks (no_contour dialect block form is) (later form f)
 
 -- Blocks without contours have no fault of contours.
-none_of_blocks : (is_loud : ℕ → Bool) (bs : List ControlBlock) (place : ℕ) (blocks : List Block) → All HasNone blocks
-    → blocks_fault is_loud bs place blocks ≡ None
-none_of_blocks is_loud bs place [] none = refl
-none_of_blocks is_loud bs place (block ∷ blocks) none =
-    rw (All-head HasNone block blocks none) (none_of_blocks is_loud bs (suc place) blocks (All-tail HasNone block blocks none))
+none_of_blocks : (is_loud : ℕ → Bool) (bs : List ControlBlock) (blocks : List Block) → All HasNone blocks
+    → blocks_fault is_loud bs blocks ≡ None
+none_of_blocks is_loud bs [] none = refl
+none_of_blocks is_loud bs (block ∷ blocks) none =
+    rw (All-head HasNone block blocks none) (none_of_blocks is_loud bs blocks (All-tail HasNone block blocks none))
 
 -- A tape that reads in full has no fault of contours.
 no_contours : (dialect : Dialect) (order : List ControlProgram) (tape : List Program) (done forms : List ProgramForm)
@@ -305,46 +311,80 @@ no_contours dialect order (program ∷ rest) done forms e =
         → contour_fault order (program ∷ rest) ≡ None
     go (Err fault) is f later = absurd cc
     go (Ok blocks) is f later =
-        rw (none_of_blocks (loud order) (order_blocks order program.number) 0 program.blocks (none_in_blocks dialect program.blocks [] blocks is))
+        rw (none_of_blocks (loud order) (order_blocks order program.number) program.blocks (none_in_blocks dialect program.blocks [] blocks is))
         (later (record { number = program.number; line = program.line; blocks = blocks }) f)
 
 -- The tape of a path, and a pair.
+
+-- With no free switch on, the switches of a path are those of its settings.
+same_switches : (on off : ℕ) → switches_at 0 on off ≡ on
+same_switches on off = ap (bit_or on) (and_comm 0 (65535 - off) ∙ and_zero_r (65535 - off)) ∙ or_zero_r on
 
 -- A plain text whose tape is accepted for a run has, for its waits, an order with the same
 -- controls.
 ordered_too : BlockLaw → CleanLaw → (cell : Cell) (path : Path) (text : List ℕ) (forms : List ProgramForm)
     → IsPlainText (dialect_in cell) (skips_of path cell) text → (flow : IsFlowOf cell path text forms)
     → IsOrderOf (record { dialect = dialect_in cell; outside = None }) (skips_of path cell) text flow.tape (controls forms)
-ordered_too law clean cell path text forms plain flow = record {
-  reads = ap (λ t. tape_of (skips_of path cell) t) plain.no_comma ∙ flow.reads;
-  ordered = record {
-    reads = programs_widened law (dialect_in cell) flow.tape flow.tape [] forms (plain.plain flow.tape flow.reads)
-        (clean (skips_of path cell) text flow.tape flow.reads) flow.accepted.reads;
-    sound = flow.accepted.sound;
-    contours = no_contours (dialect_in cell) (controls forms) flow.tape [] forms flow.accepted.reads;
-  };
+ordered_too law clean cell path text forms plain flow =
+    let read : programs_read (record { dialect = dialect_in cell; outside = None }) flow.tape ≡ Ok (controls forms) =
+    programs_widened law (dialect_in cell) flow.tape flow.tape [] forms (plain.plain flow.tape flow.reads)
+    (clean (skips_of path cell) text flow.tape flow.reads) flow.accepted.reads in
+    record {
+      reads = ap (λ t. tape_of (skips_of path cell) t) plain.opened ∙ flow.reads;
+      ordered = record {
+        reads = read;
+        sound = flow.accepted.sound;
+        late =
+            ap (λ found. or_later found (contour_fault (controls forms) flow.tape)) (plain.single flow.tape (controls forms) flow.reads read)
+            ∙ no_contours (dialect_in cell) (controls forms) flow.tape [] forms flow.accepted.reads;
+      };
+    }
+
+-- A pair that a run accepts, as it is judged for its waits with no free switch on.
+abbrev first_of : (texts : Texts) (cell : Cell) (left right : List ProgramForm) → run.AreAccepted texts cell left right → Judged
+first_of texts cell left right accepted_run = record {
+  cell = cell_at 0 cell;
+  left_tape = accepted_run.flows.left_is.tape;
+  right_tape = accepted_run.flows.right_is.tape;
+  left = controls left;
+  right = controls right;
 }
 
--- A pair of plain texts that is accepted for a run is accepted for its waits, with the same lists
--- of labels.
+-- It is accepted with no free switch on.
+accepted_first : BlockLaw → CleanLaw → (texts : Texts) (cell : Cell) (left right : List ProgramForm) → ArePlain texts cell
+    → (accepted_run : run.AreAccepted texts cell left right)
+    → AreAcceptedAt (question_of texts.left texts.right texts.settings None) (first_of texts cell left right accepted_run)
+accepted_first law clean texts cell left right plain accepted_run = record {
+  orders = record {
+    settings_are = ap (cell_or_line 0) accepted_run.flows.settings_are;
+    left_is =
+        subst (λ n. IsOrderOf (record { dialect = dialect_in cell; outside = None }) n texts.left accepted_run.flows.left_is.tape (controls left))
+        (sym (same_switches (slice_index cell.skips 0) (slice_index cell.unskips 0)))
+        (ordered_too law clean cell One texts.left left plain.left accepted_run.flows.left_is);
+    right_is =
+        subst (λ n. IsOrderOf (record { dialect = dialect_in cell; outside = None }) n texts.right accepted_run.flows.right_is.tape (controls right))
+        (sym (same_switches (slice_index cell.skips 1) (slice_index cell.unskips 1)))
+        (ordered_too law clean cell Two texts.right right plain.right accepted_run.flows.right_is);
+  };
+  pair = accepted_run.pair;
+}
+
+-- A pair of plain texts that is accepted for a run is accepted for its waits with no free switch on,
+-- with the same lists of labels, and whole if no switch is free.
 pub widened : BlockLaw → CleanLaw → (texts : Texts) (cell : Cell) (left right : List ProgramForm) → ArePlain texts cell
     → run.AreAccepted texts cell left right → IsWidened texts cell left right
-widened law clean texts cell left right plain accepted_run = record {
-  judged = record {
-    cell = cell;
-    left_tape = accepted_run.flows.left_is.tape;
-    right_tape = accepted_run.flows.right_is.tape;
-    left = controls left;
-    right = controls right;
-  };
-  left_same = refl;
-  right_same = refl;
-  accepted = record {
-    orders = record {
-      settings_are = accepted_run.flows.settings_are;
-      left_is = ordered_too law clean cell One texts.left left plain.left accepted_run.flows.left_is;
-      right_is = ordered_too law clean cell Two texts.right right plain.right accepted_run.flows.right_is;
-    };
-    pair = accepted_run.pair;
-  };
-}
+widened law clean texts cell left right plain accepted_run =
+    let all : Asked = question_of texts.left texts.right texts.settings None in
+    record {
+      judged = first_of texts cell left right accepted_run;
+      left_same = refl;
+      right_same = refl;
+      accepted = accepted_first law clean texts cell left right plain accepted_run;
+      whole = λ none. record {
+        cell = cell;
+        settings_are = accepted_run.flows.settings_are;
+        first = accepted_first law clean texts cell left right plain accepted_run;
+        standings = [];
+        others = subst (λ free. AreAcceptedTo all free LAST_POSITION []) (sym none) (none_free all LAST_POSITION);
+      };
+    }

@@ -1,6 +1,6 @@
--- What `waits` is asked: the three texts of a pair, and which programs its tapes may lack; and how
--- the text of a tape is read, with a blank for each comma.
-use Rattle.std.specs.Prelude.{ℕ, ◌==◌, List, map, Option, if◌then◌else◌}
+-- What `waits` is asked: the three texts of a pair, and which programs its tapes may lack, at a
+-- position of the block-skip switches.
+use Rattle.std.specs.Prelude.{ℕ, List, Option}
 use Rattle.nc_verify.specs.Verdict.{Texts}
 use Rattle.open_order.specs.declared.outside.Outside.{Outside}
 
@@ -11,16 +11,15 @@ pub record Asked : Type 0 where
   -- The O numbers of programs in the control's memory, which the tapes may lack; none if they may
   -- lack none.
   pub outside : Option Outside
+  -- The block-skip switches that are on in both paths, of those that no line of the settings fixes:
+  -- bit n is switch n.
+  pub position : ℕ
 
--- The byte, with a blank (32) for a comma (44).
-abbrev pub without_comma : ℕ → ℕ
-without_comma b = if b == 44 then 32 else b
-
--- The text of a tape with a blank for each comma, which the reader of tapes does not know.
-abbrev pub text_without_commas : List ℕ → List ℕ
-text_without_commas text = map without_comma text
-
--- The question with these texts and these programs that the tapes may lack.
+-- The question with these texts and these programs that the tapes may lack, with no free switch on.
 abbrev pub question_of : List ℕ → List ℕ → List ℕ → Option Outside → Asked
 question_of left right settings outside =
-    record { texts = record { left = left; right = right; settings = settings }; outside = outside }
+    record { texts = record { left = left; right = right; settings = settings }; outside = outside; position = 0 }
+
+-- The question at this position of the switches.
+abbrev pub at : ℕ → Asked → Asked
+at position asked = record asked { position = position }

@@ -1,12 +1,14 @@
 -- The text that `waits` prints of an accepted pair: how often the paths meet, a line for each
--- meeting and for the end, and what was taken on trust. src/printing.rt makes it.
-use Rattle.std.specs.Prelude.{ℕ, ◌-◌, nat_le, pos, List, [], ◌∷◌, ◌++◌, length, codes, decimal, if◌then◌else◌}
+-- meeting and for the end, the switches that change them, and what was taken on trust.
+-- src/printing.rt makes it.
+use Rattle.std.specs.Prelude.{ℕ, ◌-◌, nat_le, pos, List, [], ◌∷◌, ◌++◌, length, Option, Some, None, codes, decimal, if◌then◌else◌}
 use Rattle.nc_number.specs.declared.limits.TheConstants.{LARGEST_MICRO}
 use Rattle.nc_number.specs.Printed.{value_text}
 use Rattle.block_order.specs.declared.label.Label.{Label}
 use Rattle.block_order.specs.declared.label.Label.TheVariants.{Wait, End, Again, Off}
 use Rattle.label_list.specs.declared.labelled.Labelled.{Labelled}
 use Rattle.text_pieces.specs.Pieces.{text_with_number}
+use Rattle.open_order.specs.declared.hanging.Hanging.{Hanging}
 use Rattle.open_order.specs.Trusted.{TrustView, is_nothing}
 
 -- A label as it is printed: a wait by its M code, or how the path ends.
@@ -55,6 +57,24 @@ trust_text trust = if is_nothing trust then [] else codes "goes on" ++ codes_tex
 abbrev pub head_text : List Labelled → List ℕ
 head_text left = text_with_number (codes "waits ") (length left - 1) ++ codes "\n"
 
+-- The line of a tape after these bytes, if there is one.
+abbrev pub line_text : List ℕ → Option ℕ → List ℕ
+line_text before None = []
+line_text before (Some line) = text_with_number before line
+
+-- The line of a block-skip switch that changes waits or ends: `skip 1 path 1 line 27 path 2 line
+-- 20`.
+unfoldable pub hanging_text : Hanging → List ℕ
+hanging_text hanging =
+    text_with_number (codes "skip ") hanging.switch ++ line_text (codes " path 1 line ") hanging.one
+    ++ line_text (codes " path 2 line ") hanging.two ++ codes "\n"
+
+-- A line for each of these switches.
+abbrev pub hangings_text : List Hanging → List ℕ
+hangings_text [] = []
+hangings_text (hanging ∷ rest) = hanging_text hanging ++ hangings_text rest
+
 -- The text of an accepted pair.
 unfoldable pub waits_text : List Labelled → List Labelled → TrustView → List ℕ
-waits_text left right trust = head_text left ++ meetings_text left right ++ trust_text trust
+waits_text left right trust =
+    head_text left ++ meetings_text left right ++ hangings_text trust.switches ++ trust_text trust

@@ -7,9 +7,10 @@ use open_order::Trust;
 /// and what was taken on trust.
 #[derive(Drop)]
 pub struct WaitPair {
-    /// The labels of each path: its waits and its end. Both have the same ones, each with the lines
-    /// of its own tape.
+    /// The labels of each path with no free switch on: its waits and its end. Both have the same
+    /// ones, each with the lines of its own tape.
     pub labels: Both<LabelList>,
-    /// The codes and calls that are taken to go on to the next block.
+    /// The codes and calls that are taken to go on to the next block, and the block-skip switches
+    /// that change the labels.
     pub trust: Trust,
 }

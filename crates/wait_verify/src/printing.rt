@@ -1,17 +1,17 @@
 //! The text that `waits` prints of an accepted pair: how often the paths meet, a line for each
-//! meeting and for the end, and what was taken on trust. Its definition is in specs/Printed.antt.
+//! meeting and for the end, the switches that change them, and what was taken on trust. Its definition is in specs/Printed.antt.
 ghost use Rattle.std.specs.Prelude.{◌≡◌, ◌+◌, ◌≤◌, ◌++◌, OnOk, codes, length};
 ghost use Rattle.text_pieces.specs.declared.piece.TheConstants.{MOST_BYTES};
 ghost use Rattle.nc_number.specs.Printed.{value_text};
 ghost use Rattle.text_pieces.specs.Pieces.{text_with_number};
 ghost use Rattle.open_order.specs.Basis.{trust_view};
-ghost use Rattle.wait_verify.specs.Printed.{label_text, meeting_text, meetings_text, geometry_text, geometries_text, numbers_text, codes_text, trust_text, head_text, waits_text};
+ghost use Rattle.wait_verify.specs.Printed.{label_text, meeting_text, meetings_text, geometry_text, geometries_text, numbers_text, codes_text, trust_text, head_text, line_text, hanging_text, hangings_text, waits_text};
 
 use crate::pair::WaitPair;
 use block_order::Label;
 use label_list::Labelled;
 use nc_number::{LARGEST_MICRO, NoMemory, Value};
-use open_order::Trust;
+use open_order::{Hanging, Trust};
 use std::collections::BTreeSet;
 use text_pieces::{Piece, push_numbered, push_piece};
 
@@ -160,10 +160,51 @@ fn push_head(text: &mut Vec<u8>, left: &[Labelled]) -> Result<(), NoMemory>
     push_piece(text, &head_line(left))
 }
 
+/// Adds the line of a tape after these bytes, if there is one.
+fn add_line(piece: &mut Piece, before: &[u8], line: Option<u32>)
+    requires { length piece.old + length before.now + 20 ≤ MOST_BYTES }
+    ensures text { piece.new ≡ piece.old ++ line_text before.now line }
+    ensures size { length piece.new ≤ length piece.old + length before.now + 20 }
+{
+    if let Some(line) = line {
+        piece.add_numbered(before, u64::from(line));
+    }
+}
+
+/// The line of a block-skip switch that changes waits or ends.
+#[tactic(auto, unfolding(crate::specs::Printed::hanging_text))]
+fn hanging_line(hanging: &Hanging) -> Piece
+    ensures { result ≡ hanging_text hanging.now }
+{
+    let mut piece = Piece::empty();
+    piece.add_numbered(b"skip ", u64::from(hanging.switch));
+    add_line(&mut piece, b" path 1 line ", hanging.one);
+    add_line(&mut piece, b" path 2 line ", hanging.two);
+    piece.add(b"\n");
+    piece
+}
+
+/// Adds the line of a block-skip switch. The only error is out of memory.
+fn push_hanging(text: &mut Vec<u8>, hanging: &Hanging) -> Result<(), NoMemory>
+    ensures { OnOk result (text.new.items ≡ text.old.items ++ hanging_text hanging.now) }
+{
+    push_piece(text, &hanging_line(hanging))
+}
+
+/// Adds a line for each of the block-skip switches. The only error is out of memory.
+fn push_hangings(text: &mut Vec<u8>, switches: &[Hanging]) -> Result<(), NoMemory>
+    ensures { OnOk result (text.new.items ≡ text.old.items ++ hangings_text switches.now) }
+{
+    for hanging in switches {
+        push_hanging(text, hanging)?;
+    }
+    Ok(())
+}
+
 /// Adds the text of an accepted pair at the end of a text: how often the paths meet; each meeting
 /// with its code and the line of each path; how both paths end, `end`, `again` after an M99 of the
-/// main programs, or `off` past their last blocks; and the codes and programs that were taken on
-/// trust. The only error is out of memory.
+/// main programs, or `off` past their last blocks; the block-skip switches that change these; and the
+/// codes and programs that were taken on trust. The only error is out of memory.
 pub fn push_waits(text: &mut Vec<u8>, pair: &WaitPair) -> Result<(), NoMemory>
     ensures { OnOk result (text.new.items
         ≡ text.old.items ++ waits_text pair.now.labels.one pair.now.labels.two (trust_view pair.now.trust)) }
@@ -171,5 +212,6 @@ pub fn push_waits(text: &mut Vec<u8>, pair: &WaitPair) -> Result<(), NoMemory>
     let left = pair.labels.one.as_slice();
     push_head(text, left)?;
     push_meetings(text, left, pair.labels.two.as_slice())?;
+    push_hangings(text, pair.trust.switches.as_slice())?;
     push_trust(text, &pair.trust)
 }

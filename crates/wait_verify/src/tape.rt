@@ -6,16 +6,16 @@ ghost use Rattle.block_order.specs.Answers.{IfFault};
 ghost use Rattle.nc_number.specs.Answers.{Gives};
 ghost use Rattle.nc_text.specs.Tape.{tape_of};
 ghost use Rattle.open_order.specs.declared.premises.Premises.{Premises};
-ghost use Rattle.wait_verify.specs.Asked.{text_without_commas};
+ghost use Rattle.open_text.specs.Opened.{opened_text};
 ghost use Rattle.open_order.specs.Exact.{IsOrdered, IsRefused};
 ghost use Rattle.wait_verify.specs.Verdict.{IsOrderOf, IsTapeRefusal};
 
-use crate::opening::opened;
 use block_order::BlockOrder;
 use nc_number::{Failing, Path};
 use nc_text::{Tape, TextFault};
 use nc_verify::{Refusal, read_tape};
 use open_order::{Premises, open_order};
+use open_text::open_text;
 use std::alloc::Global;
 
 /// A tape, and the order of its blocks.
@@ -27,12 +27,12 @@ pub(crate) struct OrderedTape {
     pub(crate) order: BlockOrder,
 }
 
-/// The tape of a text with a blank for each comma. Blocks of these switches are skipped.
+/// The tape of a text that is opened first: what no wait depends on is taken out. Blocks of these switches are skipped.
 /// Errors: the first bad line, or out of memory.
 fn read_text(alloc: Global, skips: u16, text: &[u8]) -> Result<Tape, Failing<TextFault>>
-    ensures { Gives (λ tape. tape) result (tape_of skips (text_without_commas text.now)) }
+    ensures { Gives (λ tape. tape) result (tape_of skips (opened_text skips text.now)) }
 {
-    let bytes = opened(alloc, text)?;
+    let bytes = open_text(alloc, skips, text)?;
     read_tape(alloc, skips, bytes.as_slice())
 }
 
@@ -43,7 +43,7 @@ fn tape_of_path(
     path: Path,
     text: &[u8],
 ) -> Result<Tape, Failing<Refusal>>
-    ensures reads { IfOk result (λ tape. tape_of skips (text_without_commas text.now) ≡ Ok tape) }
+    ensures reads { IfOk result (λ tape. tape_of skips (opened_text skips text.now) ≡ Ok tape) }
     ensures refused { (premises : Premises)
         → IfErr result (λ error. IfFault error (IsTapeRefusal premises skips path text.now)) }
 {
@@ -66,7 +66,7 @@ fn order_of_path(
     tape: &Tape,
 ) -> Result<BlockOrder, Failing<Refusal>>
     ensures ordered { IfOk result (IsOrdered premises tape.now) }
-    ensures refused { (skips : ℕ) (text : List ℕ) → tape_of skips (text_without_commas text) ≡ Ok tape.now
+    ensures refused { (skips : ℕ) (text : List ℕ) → tape_of skips (opened_text skips text) ≡ Ok tape.now
         → IfErr result (λ error. IfFault error (IsTapeRefusal premises skips path text)) }
 {
     match open_order(alloc, premises, tape.as_slice()) {

@@ -178,6 +178,16 @@ zones q -> zones [q]
 zones -- --q -> zones [--q]
 zones -> usage
 zones q r -> usage
+zones q l r -> zones [q] [l] [r]
+zones q l r s -> zones [q] [l] [r] [s]
+zones -- q l r s -> zones [q] [l] [r] [s]
+zones q l -- r --s -> zones [q] [l] [r] [--s]
+zones  l  s -> zones [] [l] [] [s]
+zones q l r s t -> usage
+zones q -- l -> usage
+zones q l r --blocks 7 -> usage
+zones q l r --settings s -> usage
+zones -q l r -> usage
 zones q --blocks 7 -> usage
 zones --q -> usage
 branch 0 -> branch 0
@@ -215,6 +225,15 @@ expand -> usage
 expand l r -> usage
 expand l --blocks 7 -> usage
 expand --tape l -> usage
+plain t -> plain [t]
+plain t s -> plain [t] [s]
+plain -- --t s -> plain [--t] [s]
+plain -- t --s -> plain [t] [--s]
+plain -> usage
+plain t s u -> usage
+plain t --blocks 7 -> usage
+plain --tape t -> usage
+plain t --settings s -> usage
 expan l -> usage
 help -> usage
 --help -> usage
@@ -290,6 +309,12 @@ fn shown(alloc: Global, answer: Result<Command, WordsFault>) -> Result<String, A
             let zones = zones.as_str();
             format!(in alloc; "zones [{zones}]")
         }
+        Ok(Command::ZonesOf(zones, left, right, settings)) => {
+            let pair = pair_shown(alloc, &left, &right, &settings)?;
+            let pair = pair.as_str();
+            let zones = zones.as_str();
+            format!(in alloc; "zones [{zones}]{pair}")
+        }
         Ok(Command::Make(number, files)) => {
             let files = files_shown(alloc, &files)?;
             let files = files.as_str();
@@ -298,6 +323,16 @@ fn shown(alloc: Global, answer: Result<Command, WordsFault>) -> Result<String, A
         Ok(Command::Expand(tape)) => {
             let tape = tape.as_str();
             format!(in alloc; "expand [{tape}]")
+        }
+        Ok(Command::Plain(tape, settings)) => {
+            let tape = tape.as_str();
+            match settings {
+                Some(settings) => {
+                    let settings = settings.as_str();
+                    format!(in alloc; "plain [{tape}] [{settings}]")
+                }
+                None => format!(in alloc; "plain [{tape}]"),
+            }
         }
         Err(WordsFault::Usage) => String::from_str(alloc, "usage"),
         Err(WordsFault::NoMemory) => String::from_str(alloc, "no memory"),

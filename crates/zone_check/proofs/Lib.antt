@@ -1,7 +1,7 @@
--- The lemmas of this crate, which no other crate uses: the zones kept are those of the segments
--- (Folded, Going), and what is hit in them (Lapped), their text (ZoneByZone, FindingByFinding), and that paths stand where their moves lead (MovesLead,
--- TurnsLead).
-mod Folded
+-- The lemmas of this crate: the zones kept are those of the segments (Folded, Going), and what is hit
+-- in them (Lapped), their text (ZoneByZone, FindingByFinding), and that paths stand where their moves
+-- lead (MovesLead, TurnsLead). Other crates use Folded.
+pub mod Folded
 mod Lapped
 mod Going
 mod ZoneByZone

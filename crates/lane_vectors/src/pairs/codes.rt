@@ -2,11 +2,11 @@
 //! code each, and wait for nobody.
 //! runs.rt uses it.
 
-ghost use Rattle.std.specs.Prelude.{◌≡◌, ◌≢◌, map, [], ◌∷◌};
-ghost use Rattle.nc_outside.specs.declared.halt.Next.TheVariants.{Drain};
+ghost use Rattle.std.specs.Prelude.{◌≡◌, [], ◌∷◌, false, Some};
 ghost use Rattle.nc_moves.specs.declared.motion.Move.TheVariants.{Aux};
 ghost use Rattle.nc_outside.specs.Lined.{lined_moves, lined_move};
-ghost use Rattle.seat_table.specs.Turning.{Answers};
+ghost use Rattle.lane_vectors.specs.Codes.{codes_told};
+ghost use Rattle.seat_table.specs.Turning.{Answers, IsNoDrain};
 
 use nc_moves::{Move, MoveList, Moves};
 use nc_number::Path;
@@ -27,10 +27,10 @@ pub struct CodeTable<'a> {
     pub goals: (usize, usize),
     /// How many steps there were.
     pub steps: &'a AtomicU64,
-    /// Whether each record is to be drained.
+    /// Whether path 1 is to be drained before its first record, and was not yet.
     pub drains: bool,
-    /// Whether a record was made that is not drained.
-    pub owed: bool,
+    /// Whether path 1 was asked for that.
+    pub asked: bool,
     /// How many drains it was told.
     pub drained: u64,
     /// Why the table was halted.
@@ -45,7 +45,7 @@ impl<'a> CodeTable<'a> {
         drains: bool,
         steps: &'a AtomicU64,
     ) -> CodeTable<'a>
-        ensures { (result.first.items ≡ []) × (result.second.items ≡ []) }
+        ensures { (result.first.items ≡ []) × (result.second.items ≡ []) × (result.asked ≡ false) }
     {
         CodeTable {
             first: Vec::new(alloc),
@@ -53,7 +53,7 @@ impl<'a> CodeTable<'a> {
             goals,
             steps,
             drains,
-            owed: false,
+            asked: false,
             drained: 0,
             halt: None,
         }
@@ -71,9 +71,8 @@ fn block(m: u16) -> Moves
 
 /// One record more of a path, or its end if it has as many as its goal.
 fn make(records: &mut Vec<u16>, goal: usize) -> Next
-    ensures undrained { result ≢ Drain }
-    ensures made { Answers (map (λ m. lined_move 1 (Aux m) ∷ []) records.old.items) result
-        (map (λ m. lined_move 1 (Aux m) ∷ []) records.new.items) }
+    ensures undrained { IsNoDrain (Some result) }
+    ensures made { Answers (codes_told records.old.items) result (codes_told records.new.items) }
 {
     if records.len() >= goal {
         return Next::Finished;
@@ -86,21 +85,16 @@ fn make(records: &mut Vec<u16>, goal: usize) -> Next
 }
 
 impl<'a> Turns for CodeTable<'a> {
-    ghost use Rattle.std.specs.Prelude.{map, false, ◌&&◌, is_none, [], ◌∷◌};
-    ghost use Rattle.nc_moves.specs.declared.motion.Move.TheVariants.{Aux};
-    ghost use Rattle.nc_outside.specs.Lined.{lined_move};
-    ghost use Rattle.nc_number.specs.Both.{of_path};
+    ghost use Rattle.std.specs.Prelude.{false, is_none};
+    ghost use Rattle.lane_vectors.specs.Codes.{told_of, drains_of};
 
-    ghost records = { λ t path. of_path (record {
-      one = map (λ m. lined_move 1 (Aux m) ∷ []) t.first.items;
-      two = map (λ m. lined_move 1 (Aux m) ∷ []) t.second.items;
-    }) path };
+    ghost told = { λ t path. told_of path t.asked t.first.items t.second.items };
 
     ghost reason = { λ t. t.halt };
 
     ghost waits = { λ _ _. false };
 
-    ghost drains = { λ t _. is_none t.halt && (t.owed && t.drains) };
+    ghost drains = { λ t path. drains_of path (is_none t.halt) t.drains t.asked };
 
     fn waits(&self, _path: Path) -> bool {
         false
@@ -111,19 +105,22 @@ impl<'a> Turns for CodeTable<'a> {
         if let Some(why) = self.halt {
             return Some(Next::Halted(why));
         }
-        if self.owed && self.drains {
-            return Some(Next::Drain);
-        }
-        self.owed = true;
         match path {
+            Path::One if self.drains && self.asked => Some(Next::Silent),
+            Path::One if self.drains => {
+                self.asked = true;
+                Some(Next::Drain(101))
+            }
             Path::One => Some(make(&mut self.first, self.goals.0)),
             Path::Two => Some(make(&mut self.second, self.goals.1)),
         }
     }
 
-    fn drained(&mut self, _path: Path) {
-        self.owed = false;
+    fn drained(&mut self, path: Path) {
         self.drained = self.drained.saturating_add(1);
+        if let Path::One = path {
+            self.drains = self.drains && !self.asked;
+        }
     }
 
     fn halt(&mut self, why: Halt) {

@@ -1,6 +1,6 @@
 //! Tests of `run_pair` and `give_turn` (turret_run): runs of both paths in their threads, and
 //! single turns of one path.
-ghost use Rattle.std.specs.Prelude.{◌≡◌, []};
+ghost use Rattle.std.specs.Prelude.{◌≡◌, [], false};
 
 use super::codes::CodeTable;
 use drive_line::Driven;
@@ -20,7 +20,7 @@ fn run<'a, R: Threads + Wait + Sync, T: Turret + Send>(
     table: CodeTable<'a>,
     turrets: Both<T>,
 ) -> Result<Ran<CodeTable<'a>, T>, NoMemory>
-    requires { (table.first.items ≡ []) × (table.second.items ≡ []) }
+    requires { (table.first.items ≡ []) × (table.second.items ≡ []) × (table.asked ≡ false) }
 {
     match run_pair(rt, alloc, table, turrets) {
         Ok(ran) => Ok(ran),
@@ -41,7 +41,7 @@ fn failed<R: Threads + Wait + Sync>(
     let one = MemoryTurret::with_plans(alloc, 500, &[failing], &[unsettled])?;
     let two = MemoryTurret::new(alloc, 500, &[])?;
     let table = CodeTable::new(alloc, (500, 0), false, &steps);
-    let Ran { table, turrets } = run(rt, alloc, table, Both { one, two })?;
+    let Ran { table, turrets, .. } = run(rt, alloc, table, Both { one, two })?;
     let Both { one, two } = turrets;
     let (first_failed, second_failed) = (one.has_failed(), two.has_failed());
     let missed = one.missed();
@@ -65,7 +65,7 @@ fn a_turret_that_fails_stops_both_paths(rt: HostRuntime) -> Result<(), Fail> {
 }
 
 /// Gives path 1 so many turns, up to 20 records. It answers how many drains the table was told, how
-/// many moves the turret took and how many it missed, and whether it failed.
+/// many moves and rests the turret got, how many moves it missed, and whether it failed.
 fn given<R: Wait>(
     rt: &R,
     alloc: Global,
@@ -90,10 +90,11 @@ fn given<R: Wait>(
 fn single_turns_hand_their_moves_at_once(rt: HostRuntime) -> Result<(), Fail> {
     for (turns, drains, failing, unsettled, due) in [
         (12, false, 0, 0, (0, 12, 0, false)),
-        (12, true, 0, 0, (6, 6, 0, false)),
+        (12, true, 0, 0, (1, 12, 0, false)),
         (12, false, 4, 0, (0, 3, 9, true)),
         (30, false, 0, 0, (0, 20, 0, false)),
-        (12, true, 0, 3, (2, 3, 0, true)),
+        (12, true, 0, 1, (0, 0, 0, true)),
+        (12, true, 3, 0, (1, 3, 9, true)),
     ] {
         let got = given(&rt, rt.alloc(), turns, drains, failing, unsettled)?;
         assert_eq!(rt; got, due);

@@ -2,11 +2,11 @@
 //! has as many records as its goal. When a path waits is in specs/Waiting.antt.
 //! paths.rt uses it.
 
-ghost use Rattle.std.specs.Prelude.{◌≡◌, ◌≢◌, map, [], ◌∷◌};
-ghost use Rattle.nc_outside.specs.declared.halt.Next.TheVariants.{Drain};
+ghost use Rattle.std.specs.Prelude.{◌≡◌, [], ◌∷◌, Some};
 ghost use Rattle.nc_moves.specs.declared.motion.Move.TheVariants.{Aux};
 ghost use Rattle.nc_outside.specs.Lined.{lined_moves, lined_move};
-ghost use Rattle.seat_table.specs.Turning.{Answers};
+ghost use Rattle.lane_vectors.specs.Codes.{codes_told};
+ghost use Rattle.seat_table.specs.Turning.{Answers, IsNoDrain};
 
 use nc_moves::{Move, MoveList, Moves};
 use nc_number::Path;
@@ -71,9 +71,8 @@ fn block(m: u16) -> Moves
 
 /// One record more of a path, or its end if memory runs out.
 fn make(records: &mut Vec<u16>) -> Next
-    ensures undrained { result ≢ Drain }
-    ensures made { Answers (map (λ m. lined_move 1 (Aux m) ∷ []) records.old.items) result
-        (map (λ m. lined_move 1 (Aux m) ∷ []) records.new.items) }
+    ensures undrained { IsNoDrain (Some result) }
+    ensures made { Answers (codes_told records.old.items) result (codes_told records.new.items) }
 {
     let m = (records.len() % 1000) as u16;
     if records.push(m).is_err() {
@@ -83,22 +82,18 @@ fn make(records: &mut Vec<u16>) -> Next
 }
 
 impl Turns for MemoryTable {
-    ghost use Rattle.std.specs.Prelude.{map, false, is_none, length, [], ◌∷◌};
-    ghost use Rattle.nc_moves.specs.declared.motion.Move.TheVariants.{Aux};
-    ghost use Rattle.nc_outside.specs.Lined.{lined_move};
-    ghost use Rattle.nc_number.specs.Both.{of_path};
+    ghost use Rattle.std.specs.Prelude.{false, is_none, length};
+    ghost use Rattle.lane_vectors.specs.Codes.{told_of};
     ghost use Rattle.lane_vectors.specs.Waiting.{waits_at};
+    ghost use Rattle.seat_table.specs.Turning.{Draining};
 
-    ghost records = { λ t path. of_path (record {
-      one = map (λ m. lined_move 1 (Aux m) ∷ []) t.first.items;
-      two = map (λ m. lined_move 1 (Aux m) ∷ []) t.second.items;
-    }) path };
+    ghost told = { λ t path. told_of path false t.first.items t.second.items };
 
     ghost reason = { λ t. t.halt };
 
     ghost waits = { λ t path. waits_at path (is_none t.halt) (length t.first.items) (length t.second.items) t.goal };
 
-    ghost drains = { λ _ _. false };
+    ghost drains = { λ _ _. Draining.none };
 
     fn waits(&self, path: Path) -> bool {
         if self.halt.is_some() {

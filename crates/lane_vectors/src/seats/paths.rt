@@ -1,10 +1,9 @@
 //! Tests of seats: paths that walk in threads, and what each got of the moves of its records. The
 //! table is in memory.rt.
 ghost use Rattle.std.specs.Prelude.{◌≡◌};
-ghost use Rattle.nc_outside.specs.Calls.{moves_answered};
+ghost use Rattle.nc_outside.specs.Calls.{told_by};
 ghost use Rattle.nc_number.specs.declared.path.Path.TheVariants.{One};
 ghost use Rattle.seat_table.specs.Passes.{fresh_halter};
-ghost use Rattle.seat_table.specs.Turning.{moves_in};
 
 use super::memory::{MemoryTable, yield_often};
 use nc_moves::{Move, Moves};
@@ -92,7 +91,7 @@ fn work<R: Wait + Sync>(
     pass: SeatPass<MemoryTable>,
 ) -> (SeatPass<MemoryTable>, Codes)
     requires table { pass.table ≡ table.now }
-    requires told { moves_answered pass.calls ≡ moves_in pass.records }
+    requires told { told_by pass.calls ≡ pass.told }
     ensures { (result.0.table ≡ table.now) × (result.0.path ≡ pass.path) }
 {
     let path = pass.path();
@@ -150,11 +149,11 @@ fn run_both<R: Threads + Wait + Sync>(
     let ((first, one), (second, two)) = thread::join(
         rt,
         move || -> (SeatPass<MemoryTable>, Codes)
-            requires { (first.table ≡ both.now) × (moves_answered first.calls ≡ moves_in first.records) }
+            requires { (first.table ≡ both.now) × (told_by first.calls ≡ first.told) }
             ensures { (result.0.table ≡ first.table) × (result.0.path ≡ first.path) }
         { work(rt, alloc, both, first) },
         move || -> (SeatPass<MemoryTable>, Codes)
-            requires { (second.table ≡ both.now) × (moves_answered second.calls ≡ moves_in second.records) }
+            requires { (second.table ≡ both.now) × (told_by second.calls ≡ second.told) }
             ensures { (result.0.table ≡ second.table) × (result.0.path ≡ second.path) }
         { work(rt, alloc, both, second) },
     );
@@ -189,7 +188,7 @@ fn run_second<R: Threads + Wait + Sync>(
             ensures { (result.table ≡ first_halt.table) × (result.path ≡ first_halt.path) }
         { look_on(rt, both, first_halt) },
         move || -> (SeatPass<MemoryTable>, Codes)
-            requires { (second.table ≡ both.now) × (moves_answered second.calls ≡ moves_in second.records) }
+            requires { (second.table ≡ both.now) × (told_by second.calls ≡ second.told) }
             ensures { (result.0.table ≡ second.table) × (result.0.path ≡ second.path) }
         { work(rt, alloc, both, second) },
     );

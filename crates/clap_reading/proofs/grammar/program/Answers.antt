@@ -3,7 +3,6 @@
 use Rattle.std.proofs.Common.{[], arith}
 use Rattle.clap_reading.specs.Grammar.{bare_app, with_row}
 use Rattle.command_words.specs.Table.{row_seen}
-use Rattle.command_words.specs.declared.table.Journal.TheVariants as journal
 use Rattle.command_words.specs.declared.table.Row.{Row}
 use Rattle.command_words.specs.declared.table.Task.TheVariants.{Verify}
 use Rattle.clap_reading.proofs.Building.{adds_subcommand, all_taken, one_more}
@@ -11,7 +10,7 @@ use Rattle.clap_reading.proofs.grammar.program.Goals as goal
 
 -- The row that is read if a list has none.
 abbrev no_row : Row
-no_row = record { name = record { ref_ptr = (0, 0); now = [] }; words = record { ref_ptr = (0, 0); now = [] }; further = record { ref_ptr = (0, 0); now = [] }; options = record { ref_ptr = (0, 0); now = [] }; journal = journal.None; task = Verify }
+no_row = record { name = record { ref_ptr = (0, 0); now = [] }; words = record { ref_ptr = (0, 0); now = [] }; further = record { ref_ptr = (0, 0); now = [] }; options = record { ref_ptr = (0, 0); now = [] }; task = Verify }
 
 pub loop-row-preserved : goal.loop-row-preserved
 loop-row-preserved c =

@@ -1,4 +1,4 @@
--- `command_with` refuses four words and more (src/making.rt).
+-- `command_with` refuses five words and more (src/making.rt).
 use Rattle.std.proofs.Common.{◌≡◌, length, map, arith}
 use Rattle.std.proofs.lemmas.List.{length-map}
 use Rattle.command_words.proofs.Lengths.{too_many}

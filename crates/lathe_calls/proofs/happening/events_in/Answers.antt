@@ -10,7 +10,7 @@ use Rattle.two_path.specs.Joined.{AreAtTheirWaits}
 use Rattle.two_path.specs.Start.{machine_at_start}
 use Rattle.lathe_calls.specs.Statuses.{reason_status}
 use Rattle.lathe_calls.specs.declared.event.Event.{Event}
-use Rattle.lathe_calls.specs.Order.{end_after, events_from, turns_given, path_at, placed_events}
+use Rattle.lathe_calls.specs.Order.{end_after, events_from, turns_given, path_at, first_events}
 use Rattle.lathe_calls.proofs.happening.events_in.Goals as goal
 
 pub give_turns-requires-clause-waits : goal.give_turns-requires-clause-waits
@@ -36,7 +36,7 @@ returns c =
       legal = (law.run (turns_of (turns_given tapes most start order))).legal;
       events = subst (λ (x : MachineView). c.give_turns.new.list.items ≡ c.in_ok-list.list.items ++ events_from tapes x (turns_given tapes most x order))
           at c.in_ok-give_turns.ensures.list
-          ∙ ap (λ (xs : List Event). xs ++ events_from tapes start (turns_given tapes most start order)) (c.in_ok-list.ensures ∙ ap placed_events at);
+          ∙ ap (λ (xs : List Event). xs ++ events_from tapes start (turns_given tapes most start order)) (c.in_ok-list.ensures ∙ ap first_events at);
       ends = c.reason_status-status.ensures ∙ ap reason_status (c.end_after.ensures ∙ ap (end_after most)
           (c.in_ok-give_turns.ensures.machine ∙ ap (λ (x : MachineView). run tapes x (turns_of (turns_given tapes most x order))) at));
     }

@@ -4,7 +4,7 @@ use Rattle.std.proofs.Common.{◌+◌, ◌<◌, ◌++◌, drop, get_or, map, ref
 use Rattle.std.proofs.lemmas.List.{at_drop_all, drop_more}
 use Rattle.nc_number.specs.declared.path.Path.{Path}
 use Rattle.two_path.specs.Turns.{tapes_of, turn_of}
-use Rattle.lathe_calls.specs.Events.{stamp_of, turn_events}
+use Rattle.lathe_calls.specs.Events.{events_of_turn}
 use Rattle.lathe_calls.specs.Order.{turns_given, path_at}
 use Rattle.lathe_calls.proofs.TurnByTurn.{events_at_end, events_go_on, given_full, run_at_end, run_goes_on}
 use Rattle.lathe_calls.proofs.ordering.give_turns.Goals as goal
@@ -26,7 +26,7 @@ loop-byte-preserved c =
     let few : m.count < c.args.most = omega (arith, c.count.ensures) in
     let turned = c.in_ok-give_turn.ensures.machine ∙ ap (λ (p : Path). (turn_of tapes p m).machine) c.path_at.ensures in
     let told = c.in_ok-give_turn.ensures.list
-    ∙ ap (λ (p : Path). c.loop-byte.list.items ++ turn_events (stamp_of tapes p m) (turn_of tapes p m).turn) c.path_at.ensures in
+    ∙ ap (λ (p : Path). c.loop-byte.list.items ++ events_of_turn tapes p m) c.path_at.ensures in
     record {
       list = events_go_on tapes c.args.most m c.give_turn.new.machine.machine path (map path_at (drop i order)) (map path_at (drop (i + 1) order))
           c.loop-byte.list.items c.give_turn.new.list.items _ from few turned told c.loop-byte.invariant.list;

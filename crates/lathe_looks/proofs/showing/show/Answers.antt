@@ -1,8 +1,8 @@
 -- For the proof of `show` (src/showing.rt): the answer is the text of a run that was found, or why
 -- there is none.
-use Rattle.std.proofs.Common.{sym, subst}
+use Rattle.std.proofs.Common.{refl, sym, subst}
 use Rattle.lathe_calls.specs.Answers.{tells}
-use Rattle.lathe_looks.specs.Shown.{IsShown, shown, unshown, shown_text}
+use Rattle.lathe_looks.specs.Shown.{IsShowing, IsShown, shown, unshown, shown_text}
 use Rattle.lathe_calls.proofs.Ended.{ends_put, ends_just}
 use Rattle.lathe_looks.proofs.showing.show.Goals as goal
 
@@ -13,9 +13,9 @@ returns-in-Ok g c =
     let text_of = shown_text c.args.showing in
     rw c.status_behind-status.ensures
     (ends_put 0 c.put.result
-    (subst (λ disk. IsShown text_of (state c.args.disk) (state disk) (tells 0 (text_of found.verified found.entries.items))) (sym c.into_disk.ensures)
+    (subst (λ disk. IsShown (IsShowing c.args.showing) (state c.args.disk) (state disk) (tells 0 (text_of found.verified found.entries.items))) (sym c.into_disk.ensures)
     (shown (record { header = found.header; entries = found.entries.items }) found.verified c.in-Ok.ensures.run.accepted
-    c.in-Ok.ensures.run.behind.history c.in-Ok.ensures.recovers))
+    c.in-Ok.ensures.run.behind.history c.in-Ok.ensures.recovers refl))
     c.put.ensures)
 
 pub returns-in-Err : goal.returns-in-Err

@@ -1,4 +1,4 @@
--- For the proof of `look_by` (src/looking.rt): the zones of the run are shown, and no turret is
+-- For the proof of `look_by` (src/looking.rt): what is due to the run is told, and no turret is
 -- called.
 use Rattle.std.proofs.Common.{refl}
 use Rattle.lathe_calls.proofs.Ended.{ends_by}

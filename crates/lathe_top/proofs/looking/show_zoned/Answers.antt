@@ -11,7 +11,7 @@ use Rattle.lathe_top.proofs.looking.show_zoned.Goals as goal
 pub returns-in-Ok : goal.returns-in-Ok
 returns-in-Ok g c =
     let read = c.in-Ok.ensures.read in
-    ends_by _ (λ answer due. answers (read.text ∷ []) read.had (zoned read.are due.0 due.1)) (rw (c.in-Ok.ensures.silent) at c.look_by.ensures)
+    ends_by _ (λ answer due. answers (read.text ∷ []) read.had (zoned read.is due.0 due.1)) (rw (c.in-Ok.ensures.silent) at c.look_by.ensures)
 
 pub returns-in-Err : goal.returns-in-Err
 returns-in-Err g c =

@@ -33,8 +33,18 @@ returns-in-State g c = rw c.in-State.is (ends_by _ (λ answer due. ((due.0, due.
 pub returns-in-Zones : goal.returns-in-Zones
 returns-in-Zones g c = rw c.in-Zones.is (ends_by _ (λ answer due. (due, refl)) (rw c.as_str-in-Zones.ensures at c.show_zoned.ensures))
 
+pub returns-in-ZonesOf : goal.returns-in-ZonesOf
+returns-in-ZonesOf g c =
+    rw c.in-ZonesOf.is (ends_by _ (λ answer due. (due, refl))
+    (rw (c.names_of-names-in-ZonesOf.ensures, c.as_str-in-ZonesOf.ensures) at c.judge_zones.ensures))
+
 pub returns-in-Branch : goal.returns-in-Branch
 returns-in-Branch g c = rw c.in-Branch.is (ends_by _ (λ answer due. ((due.0, due.1, refl), tt)) c.branch_off.ensures)
 
 pub returns-in-Expand : goal.returns-in-Expand
 returns-in-Expand g c = rw c.in-Expand.is (ends_by _ (λ answer due. (due, refl)) (rw c.as_str-in-Expand.ensures at c.write_out.ensures))
+
+pub returns-in-Plain : goal.returns-in-Plain
+returns-in-Plain g c =
+    rw c.in-Plain.is (ends_by _ (λ answer due. (due, refl))
+    (rw (c.as_str-in-Plain.ensures, c.name_in.ensures) at c.write_plain.ensures))

@@ -8,6 +8,5 @@ use Rattle.open_order.proofs.cycles.blocks_fault.Given as goal
 
 abbrev pub invariant-loop-block : goal.invariant-loop-block
 invariant-loop-block l =
-    (l.place ≡ l.block-index)
-    × (blocks_fault (loud l.order) (blocks l.order l.program) 0 l.listed
-    ≡ blocks_fault (loud l.order) (blocks l.order l.program) l.place (drop l.block-index l.listed))
+    blocks_fault (loud l.order) (blocks l.order l.program) l.listed
+    ≡ blocks_fault (loud l.order) (blocks l.order l.program) (drop l.block-index l.listed)

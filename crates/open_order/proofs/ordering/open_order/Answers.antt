@@ -1,8 +1,8 @@
 -- `open_order` tells the tape's one refusal: of a block; of the order, if all blocks read; of a
--- contour, if the order is sound (src/ordering.rt).
+-- number that stands twice, or a contour, if the order is sound (src/ordering.rt).
 use Rattle.std.proofs.Common.{ap, sym, ◌∙◌}
-use Rattle.open_order.specs.Contours.{contour_fault}
-use Rattle.open_order.specs.Exact.IsRefused.{contour}
+use Rattle.open_order.specs.Exact.{late_fault}
+use Rattle.open_order.specs.Exact.IsRefused.{late}
 use Rattle.open_order.proofs.Listed.{read_listed}
 use Rattle.open_order.proofs.Refused.{refused_by_reading, refused_by_order}
 use Rattle.open_order.proofs.ordering.open_order.Goals as goal
@@ -20,5 +20,5 @@ returns-in-Err-order_of-clause-refused c =
 
 pub returns-in-Some-clause-refused : goal.returns-in-Some-clause-refused
 returns-in-Some-clause-refused c =
-    contour c.in-Ok.programs.items c.in-Ok.ensures c.in-Ok-order_of.ensures.sound
-    (ap (λ o. contour_fault o c.args.tape.now) (sym c.in-Ok-order_of.ensures.same) ∙ sym c.contour_fault.ensures ∙ c.in-Some.is)
+    late c.in-Ok.programs.items c.in-Ok.ensures c.in-Ok-order_of.ensures.sound
+    (ap (λ o. late_fault o c.args.tape.now) (sym c.in-Ok-order_of.ensures.same) ∙ sym c.in-Ok-late_fault.ensures ∙ c.in-Some.is)

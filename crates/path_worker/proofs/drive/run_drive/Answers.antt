@@ -1,11 +1,11 @@
--- One item more is served, and at the end the turret got all moves, or a prefix of them before its
--- fault, which has halted the run (`run_drive`, src/drive.rt).
+-- One item more is served, and at the end the turret got all that it was told, or a prefix of it
+-- before its fault, which has halted the run (`run_drive`, src/drive.rt).
 use Rattle.std.proofs.Common.{◌≡◌, false, ◌++◌, ◌∷◌, [], refl, ap, sym, ◌∙◌, subst}
 use Rattle.nc_outside.specs.Calls.{IsCalled}
 use Rattle.drive_line.specs.declared.item.Item.{Item}
-use Rattle.drive_line.specs.declared.item.Item.TheVariants.{Move, Mark, End}
+use Rattle.drive_line.specs.declared.item.Item.TheVariants.{Move, Mark, Finish, End}
 use Rattle.drive_line.specs.Driving.{DrivenState, has_failed, Serves}
-use Rattle.drive_line.specs.Line.{moves_among, has_end, is_mark}
+use Rattle.drive_line.specs.Line.{moves_among, told_among, has_end, is_mark}
 use Rattle.drive_line.proofs.Items.{end_of_both}
 use Rattle.drive_line.proofs.Serving.{serves_none}
 use Rattle.path_worker.specs.Drive.{halts_at, once_halted, StandsAt}
@@ -22,7 +22,7 @@ loop-init g c =
       refl,
       ap has_end none,
       c.requires.line.1,
-      subst (λ l. Serves (moves_among l) start c.args.driven.now) (sym none) (subst (λ (d : DrivenState). Serves [] start d) (sym new) (serves_none start)),
+      subst (λ l. Serves (told_among l) start c.args.driven.now) (sym none) (subst (λ (d : DrivenState). Serves [] start d) (sym new) (serves_none start)),
       ap (λ (d : DrivenState). once_halted d.phase) new ∙ ap (λ (d : DrivenState). d.phase) (sym new),
       subst (λ (d : DrivenState). IsCalled (g.H.Stepper.calls c.args.halter.now) (g.H.Stepper.calls c.args.halter.now) (halts_at c.args.path (has_failed d.phase)))
           (sym new) (called_none (g.H.Stepper.calls c.args.halter.now)),
@@ -45,7 +45,30 @@ loop-preserved-in-Move g c =
       c.take-item.ensures.line ∙ i.2,
       ap has_end (e ∙ moved) ∙ end_of_both c.loop.line.items (Move c.in-Move.field-0 ∷ []) i.3,
       c.take-item.ensures.asked ∙ ap is_mark c.in-Move.is,
-      c.halt_at_fault.ensures.serves _ start (subst (λ l. Serves (moves_among l) start c.serve.new.driven) (sym e) (c.serve.ensures.serves c.loop.line.items start i.5)),
+      c.halt_at_fault.ensures.serves _ start (subst (λ l. Serves (told_among l) start c.serve.new.driven) (sym e) (c.serve.ensures.serves c.loop.line.items start i.5)),
+      halted_once then last c.halt_at_fault.ensures.phase,
+      halts_on c.args.path item (calls c.args.halter.now) (calls c.loop.halter) (calls c.halt_at_fault.new.halter) first then last i.6 c.halt_at_fault.ensures.phase c.serve.ensures.failed
+          c.serve.ensures.stands i.7 c.halt_at_fault.ensures.halted,
+      c.halt_at_fault.ensures.origin ∙ i.8,
+    )
+
+pub loop-preserved : goal.loop-preserved
+loop-preserved g c =
+    let i = c.loop.invariant in
+    let calls = g.H.Stepper.calls in
+    let start = c.args.driven.now.state in
+    let first = c.loop.driven.phase in
+    let then = c.serve.new.driven.phase in
+    let last = c.halt_at_fault.new.driven.phase in
+    let item = c.take-item.result in
+    let e = taken_open c.loop.line.items c.take-item.new.self.items item i.3 c.take-item.ensures.taken in
+    let moved = ap (λ (x : Item). c.loop.line.items ++ x ∷ []) c.in-Finish.is in (
+      tt,
+      tt,
+      c.take-item.ensures.line ∙ i.2,
+      ap has_end (e ∙ moved) ∙ end_of_both c.loop.line.items (Finish ∷ []) i.3,
+      c.take-item.ensures.asked ∙ ap is_mark c.in-Finish.is,
+      c.halt_at_fault.ensures.serves _ start (subst (λ l. Serves (told_among l) start c.serve.new.driven) (sym e) (c.serve.ensures.serves c.loop.line.items start i.5)),
       halted_once then last c.halt_at_fault.ensures.phase,
       halts_on c.args.path item (calls c.args.halter.now) (calls c.loop.halter) (calls c.halt_at_fault.new.halter) first then last i.6 c.halt_at_fault.ensures.phase c.serve.ensures.failed
           c.serve.ensures.stands i.7 c.halt_at_fault.ensures.halted,
@@ -61,12 +84,12 @@ answer-requires-clause-rest g c =
     let last = c.halt_at_fault.new.driven.phase in
     let e = taken_open c.loop.line.items c.take-item.new.self.items c.take-item.result i.3 c.take-item.ensures.taken in
     let stands = subst (λ (x : Item). has_failed first ≡ false → StandsAt x then) c.in-Mark.is c.serve.ensures.stands in
-    rests (moves_among c.take-item.new.self.items) start c.halt_at_fault.new.driven
-    (c.halt_at_fault.ensures.serves _ start (subst (λ l. Serves (moves_among l) start c.serve.new.driven) (sym e) (c.serve.ensures.serves c.loop.line.items start i.5)))
+    rests c.take-item.new.self.items start c.halt_at_fault.new.driven
+    (c.halt_at_fault.ensures.serves _ start (subst (λ l. Serves (told_among l) start c.serve.new.driven) (sym e) (c.serve.ensures.serves c.loop.line.items start i.5)))
     (at_rest first then last i.6 c.halt_at_fault.ensures.phase c.serve.ensures.failed stands)
 
-pub loop-preserved : goal.loop-preserved
-loop-preserved g c =
+pub loop-preserved-in-Mark : goal.loop-preserved-in-Mark
+loop-preserved-in-Mark g c =
     let i = c.loop.invariant in
     let calls = g.H.Stepper.calls in
     let start = c.args.driven.now.state in
@@ -80,10 +103,10 @@ loop-preserved g c =
       tt,
       tt,
       c.answer.ensures.line ∙ c.take-item.ensures.line ∙ i.2,
-      ap has_end (same ∙ e ∙ marked) ∙ end_of_both c.loop.line.items (Mark ∷ []) i.3,
+      ap has_end (same ∙ e ∙ marked) ∙ end_of_both c.loop.line.items (Mark c.in-Mark.field-0 ∷ []) i.3,
       c.answer.ensures.answered,
-      subst (λ l. Serves (moves_among l) start c.halt_at_fault.new.driven) (sym same)
-          (c.halt_at_fault.ensures.serves _ start (subst (λ l. Serves (moves_among l) start c.serve.new.driven) (sym e) (c.serve.ensures.serves c.loop.line.items start i.5))),
+      subst (λ l. Serves (told_among l) start c.halt_at_fault.new.driven) (sym same)
+          (c.halt_at_fault.ensures.serves _ start (subst (λ l. Serves (told_among l) start c.serve.new.driven) (sym e) (c.serve.ensures.serves c.loop.line.items start i.5))),
       halted_once then last c.halt_at_fault.ensures.phase,
       halts_on c.args.path item (calls c.args.halter.now) (calls c.loop.halter) (calls c.halt_at_fault.new.halter) first then last i.6 c.halt_at_fault.ensures.phase c.serve.ensures.failed
           c.serve.ensures.stands i.7 c.halt_at_fault.ensures.halted,
@@ -102,20 +125,7 @@ returns-in-End-clause-serves g c =
     let i = c.loop.invariant in
     let start = c.args.driven.now.state in
     let e = taken_open c.loop.line.items c.take-item.new.self.items c.take-item.result i.3 c.take-item.ensures.taken in
-    c.halt_at_fault.ensures.serves _ start (subst (λ l. Serves (moves_among l) start c.serve.new.driven) (sym e) (c.serve.ensures.serves c.loop.line.items start i.5))
-
-pub returns-in-End-clause-rest : goal.returns-in-End-clause-rest
-returns-in-End-clause-rest g c =
-    let i = c.loop.invariant in
-    let start = c.args.driven.now.state in
-    let first = c.loop.driven.phase in
-    let then = c.serve.new.driven.phase in
-    let last = c.halt_at_fault.new.driven.phase in
-    let e = taken_open c.loop.line.items c.take-item.new.self.items c.take-item.result i.3 c.take-item.ensures.taken in
-    let stands = subst (λ (x : Item). has_failed first ≡ false → StandsAt x then) c.in-End.is c.serve.ensures.stands in
-    rests (moves_among c.take-item.new.self.items) start c.halt_at_fault.new.driven
-    (c.halt_at_fault.ensures.serves _ start (subst (λ l. Serves (moves_among l) start c.serve.new.driven) (sym e) (c.serve.ensures.serves c.loop.line.items start i.5)))
-    (at_rest first then last i.6 c.halt_at_fault.ensures.phase c.serve.ensures.failed stands)
+    c.halt_at_fault.ensures.serves _ start (subst (λ l. Serves (told_among l) start c.serve.new.driven) (sym e) (c.serve.ensures.serves c.loop.line.items start i.5))
 
 pub returns-in-End-clause-halted : goal.returns-in-End-clause-halted
 returns-in-End-clause-halted g c =

@@ -4,4 +4,4 @@ use Rattle.seat_table.proofs.Keeping.{asks}
 use Rattle.seat_table.proofs.taking.stand_by.Goals as goal
 
 pub compare_exchange-requires : goal.compare_exchange-requires
-compare_exchange-requires g c = (search rules, search rules, asks g.C.Turns.records g.C.Turns.reason _ _ _)
+compare_exchange-requires g c = (search rules, search rules, asks g.C.Turns.told g.C.Turns.reason _ _ _)

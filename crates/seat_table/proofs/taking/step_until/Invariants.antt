@@ -1,4 +1,4 @@
--- The seat does not have the turn, and keeps its rights, calls and records, and what it knows of a
+-- The seat does not have the turn, and keeps its rights, calls and tellings, and what it knows of a
 -- halt (loop of `step_until`, src/taking.rt).
 use Rattle.std.proofs.Common.{◌≡◌}
 use Rattle.seat_table.specs.Knowing.{Idle, Keeps, list_at, stop_at, KeepsStop}

@@ -1,4 +1,4 @@
--- The seat does not have the turn, and keeps its rights, calls and records, and what it knows of a
+-- The seat does not have the turn, and keeps its rights, calls and tellings, and what it knows of a
 -- halt (loop of `tell_until`, src/taking.rt).
 use Rattle.std.proofs.Common.{◌≡◌, true}
 use Rattle.nc_number.specs.declared.path.Path.{Path}

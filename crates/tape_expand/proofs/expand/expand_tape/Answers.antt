@@ -5,7 +5,7 @@ use Rattle.std.specs.List.{flat_map}
 use Rattle.nc_text.specs.Lines.{lines_of}
 use Rattle.tape_expand.specs.Expansion.{parts_in, expanded_lines}
 use Rattle.tape_expand.specs.Replaced.{edits_of}
-use Rattle.tape_expand.specs.Splice.{edited_lines}
+use Rattle.line_edits.specs.Splice.{edited_lines}
 use Rattle.tape_expand.proofs.Answered.{nothing_written, clear_parts}
 use Rattle.tape_expand.proofs.expand.expand_tape.Goals as goal
 

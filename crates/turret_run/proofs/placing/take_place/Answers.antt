@@ -15,13 +15,13 @@ returns-in-Err-settle-clause-err g c =
     let state = g.T.Turret.state in
     let first = c.in_default.ensures in
     let fault = c.in-Err-settle.ensures.fault in
-    unsettled c.args.at (state c.args.turret.now) (state c.place.new.self) (state c.settle.new.self) first.ok c.in-Err-settle.ensures.settled
+    unsettled c.args.at (state c.args.turret.now) (state c.place.new.self) (state c.settle.new.self) first.ok c.in-Err-settle.ensures.err
     (first.fault.kept (λ p. true≢false (sym p))) fault.later (fault.rose refl)
 
 pub returns-clause-ok : goal.returns-clause-ok
 returns-clause-ok g c =
     let state = g.T.Turret.state in
     let first = c.in_default.ensures in
-    let then = c.in_default-settle.ensures in
-    placed c.args.at (state c.args.turret.now) (state c.place.new.self) (state c.settle.new.self) first.ok then.settled
-    (first.fault.kept (λ p. true≢false (sym p))) (then.fault.kept (λ p. true≢false (sym p)))
+    let rests = c.in_default-settle.ensures in
+    placed c.args.at (state c.args.turret.now) (state c.place.new.self) (state c.settle.new.self) first.ok rests.ok
+    (first.fault.kept (λ p. true≢false (sym p))) (rests.fault.kept (λ p. true≢false (sym p)))

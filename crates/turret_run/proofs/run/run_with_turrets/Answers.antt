@@ -1,9 +1,9 @@
 -- For the proof of `run_with_turrets` (src/run.rt), by its ways: no memory, no threads, a failed
 -- place, or a run to its end.
-use Rattle.std.proofs.Common.{[], refl, inr}
+use Rattle.std.proofs.Common.{refl, inr}
 use Rattle.nc_number.specs.Both.{both_of, of_path}
 use Rattle.two_path.specs.Machine.{position_of}
-use Rattle.turret_run.specs.Served.{moves_told}
+use Rattle.turret_run.specs.Served.{place_told}
 use Rattle.turret_run.proofs.TurretsGet.{not_called}
 use Rattle.turret_run.proofs.TurretsRun.{runs_ready, place_failed}
 use Rattle.turret_run.proofs.run.run_with_turrets.Goals as goal
@@ -14,7 +14,7 @@ returns-in_default g c =
     record {
       run = rw c.unbegun.ensures (record {
         same = c.make_ready.ensures.same;
-        turrets = λ path. not_called (moves_told (position_of path c.args.table.machine) []) (of_path before path);
+        turrets = λ path. not_called (place_told (position_of path c.args.table.machine)) (of_path before path);
         none = refl;
       });
     }
@@ -25,7 +25,7 @@ returns-then-not-can_make_threads g c =
     record {
       run = rw c.unbegun-then-not-can_make_threads.ensures (record {
         same = c.make_ready.ensures.same;
-        turrets = λ path. not_called (moves_told (position_of path c.args.table.machine) []) (of_path before path);
+        turrets = λ path. not_called (place_told (position_of path c.args.table.machine)) (of_path before path);
         none = refl;
       });
     }

@@ -9,9 +9,9 @@ pub invariant_of-self : goal.invariant_of-self
 invariant_of-self g c =
     let open_ : has_end c.self.inside.forth.items ≡ false = ap (λ s. has_end s.items) c.self.view_is ∙ c.requires in
     let answers = c.await_answer.ensures.items in
-    kept_mark _ _ _ _ answers.0 _ c.send.ensures.items answers.1 open_ c.self.invariant
+    kept_mark _ _ _ _ _ answers.0 _ c.send.ensures.items answers.1 open_ c.self.invariant
 
 pub returns-clause-open : goal.returns-clause-open
 returns-clause-open g c =
     let open_ : has_end c.self.inside.forth.items ≡ false = ap (λ s. has_end s.items) c.self.view_is ∙ c.requires in
-    open_mark _ _ c.send.ensures.items open_
+    open_mark _ _ _ c.send.ensures.items open_

@@ -3,8 +3,8 @@
 use Rattle.std.proofs.Common.{◌≡◌, subst}
 use Rattle.nc_number.specs.declared.path.Path.{Path}
 use Rattle.run_table.specs.Ending.{KeepsRest}
-use Rattle.run_table.specs.Holding.{HeldView, held_of, records_since}
-use Rattle.run_table.proofs.EndsTold.{ends, goes_on, rest_kept, records_kept, held_asked}
+use Rattle.run_table.specs.Holding.{HeldView, held_of, told_since}
+use Rattle.run_table.proofs.EndsTold.{ends, goes_on, rest_kept, told_kept, held_asked}
 use Rattle.run_table.proofs.held.Held.end.Goals as goal
 
 pub invariant_of-self : goal.invariant_of-self
@@ -33,5 +33,5 @@ pub returns-clause-same : goal.returns-clause-same
 returns-clause-same g c =
     let i = c.self.inside in
     let o = g.O.Opening.opened in
-    subst (λ (h : HeldView g.row.D.Denot). (p : Path) → records_since o (held_of c.ended.new.self i.shown) p ≡ records_since o h p) c.self.view_is
-    (records_kept g.D.Disk.state i.table c.ended.new.self c.ended.result c.ended.ensures.table c.ended.ensures.asks o i.shown)
+    subst (λ (h : HeldView g.row.D.Denot). (p : Path) → told_since o (held_of c.ended.new.self i.shown) p ≡ told_since o h p) c.self.view_is
+    (told_kept g.D.Disk.state i.table c.ended.new.self c.ended.result c.ended.ensures.table c.ended.ensures.asks o i.shown)

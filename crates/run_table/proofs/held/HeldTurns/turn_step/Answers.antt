@@ -8,7 +8,7 @@ use Rattle.nc_outside.specs.declared.halt.Next.{Next}
 use Rattle.nc_outside.specs.declared.halt.Next.TheVariants.{Halted}
 use Rattle.seat_table.specs.Turning.{Answers, AsksDrain}
 use Rattle.run_table.specs.Apart.{step_with}
-use Rattle.run_table.specs.Holding.{HeldView, held_of, waits_at, drains_at, records_since, HasStepped}
+use Rattle.run_table.specs.Holding.{HeldView, held_of, waits_at, drains_at, told_since, HasStepped}
 use Rattle.run_table.proofs.HeldKept.{lost_by, held_on, held_answers, held_others, held_halted}
 use Rattle.run_table.proofs.WaitsTold.{waits_told}
 use Rattle.run_table.proofs.DrainsTold.{drains_told}
@@ -18,7 +18,7 @@ pub invariant_of-self : goal.invariant_of-self
 invariant_of-self g c =
     let i = c.self.inside in
     held_on g.D.Disk.state g.O.Opening.opened c.args.path i.table c.step_into-step.new.self (step_with c.step_into-step.result c.step_into-step.new.moves) i.shown c.is_still_shown-shown.result
-    c.count-before.ensures.table c.count-before.ensures.within c.self.invariant c.step_into-step.ensures.step c.step_into-step.ensures.since c.step_into-step.ensures.owed
+    c.count-before.ensures.table c.count-before.ensures.within c.self.invariant c.step_into-step.ensures.step c.step_into-step.ensures.since c.step_into-step.ensures.resting c.step_into-step.ensures.rests
     (c.is_still_shown-shown.ensures c.step_into-step.new.moves ∙ lost_by i.shown (step_with c.step_into-step.result c.step_into-step.new.moves) (c.count-before.ensures.count) (c.count-after.ensures.count))
 
 pub returns-clause-step : goal.returns-clause-step
@@ -42,10 +42,10 @@ returns-clause-answer g c =
     let o = g.O.Opening.opened in
     let path = c.args.path in
     let new = held_of c.step_into-step.new.self c.is_still_shown-shown.result in
-    subst (λ (h : HeldView g.row.D.Denot). MatchOption c.next_of.result (new ≡ h) (λ next. Answers (records_since o h path) next (records_since o new path))) c.self.view_is
-    (subst (λ (n : Option Next). MatchOption n (new ≡ held_of i.table i.shown) (λ next. Answers (records_since o (held_of i.table i.shown) path) next (records_since o new path))) (sym c.next_of.ensures)
+    subst (λ (h : HeldView g.row.D.Denot). MatchOption c.next_of.result (new ≡ h) (λ next. Answers (told_since o h path) next (told_since o new path))) c.self.view_is
+    (subst (λ (n : Option Next). MatchOption n (new ≡ held_of i.table i.shown) (λ next. Answers (told_since o (held_of i.table i.shown) path) next (told_since o new path))) (sym c.next_of.ensures)
     (held_answers g.D.Disk.state o path i.table c.step_into-step.new.self (step_with c.step_into-step.result c.step_into-step.new.moves) i.shown c.is_still_shown-shown.result
-    c.count-before.ensures.table c.count-before.ensures.within c.self.invariant c.step_into-step.ensures.step c.step_into-step.ensures.since c.step_into-step.ensures.owed
+    c.count-before.ensures.table c.count-before.ensures.within c.self.invariant c.step_into-step.ensures.step c.step_into-step.ensures.since c.step_into-step.ensures.resting c.step_into-step.ensures.rests
     (c.is_still_shown-shown.ensures c.step_into-step.new.moves ∙ lost_by i.shown (step_with c.step_into-step.result c.step_into-step.new.moves) (c.count-before.ensures.count) (c.count-after.ensures.count))))
 
 pub returns-clause-others : goal.returns-clause-others
@@ -53,9 +53,9 @@ returns-clause-others g c =
     let i = c.self.inside in
     let o = g.O.Opening.opened in
     let new = held_of c.step_into-step.new.self c.is_still_shown-shown.result in
-    subst (λ (h : HeldView g.row.D.Denot). (p : Path) → p ≢ c.args.path → records_since o new p ≡ records_since o h p) c.self.view_is
+    subst (λ (h : HeldView g.row.D.Denot). (p : Path) → p ≢ c.args.path → told_since o new p ≡ told_since o h p) c.self.view_is
     (held_others g.D.Disk.state o c.args.path i.table c.step_into-step.new.self (step_with c.step_into-step.result c.step_into-step.new.moves) i.shown c.is_still_shown-shown.result
-    c.count-before.ensures.table c.count-before.ensures.within c.self.invariant c.step_into-step.ensures.step c.step_into-step.ensures.since c.step_into-step.ensures.owed
+    c.count-before.ensures.table c.count-before.ensures.within c.self.invariant c.step_into-step.ensures.step c.step_into-step.ensures.since c.step_into-step.ensures.resting c.step_into-step.ensures.rests
     (c.is_still_shown-shown.ensures c.step_into-step.new.moves ∙ lost_by i.shown (step_with c.step_into-step.result c.step_into-step.new.moves) (c.count-before.ensures.count) (c.count-after.ensures.count)))
 
 pub returns-clause-waits : goal.returns-clause-waits
@@ -73,7 +73,7 @@ returns-clause-drains g c =
     let new = held_of c.step_into-step.new.self c.is_still_shown-shown.result in
     subst (λ (h : HeldView g.row.D.Denot). AsksDrain (drains_at h path) c.next_of.result (drains_at new path)) c.self.view_is
     (subst (λ (n : Option Next). AsksDrain (drains_at (held_of i.table i.shown) path) n (drains_at new path)) (sym c.next_of.ensures)
-    (drains_told g.D.Disk.state path i.table c.step_into-step.new.self (step_with c.step_into-step.result c.step_into-step.new.moves) i.shown c.is_still_shown-shown.result c.step_into-step.ensures.step c.step_into-step.ensures.owed))
+    (drains_told g.D.Disk.state path i.table c.step_into-step.new.self (step_with c.step_into-step.result c.step_into-step.new.moves) i.shown c.is_still_shown-shown.result c.step_into-step.ensures.step c.step_into-step.ensures.resting))
 
 pub returns-clause-halted : goal.returns-clause-halted
 returns-clause-halted g c =
@@ -81,9 +81,9 @@ returns-clause-halted g c =
     let o = g.O.Opening.opened in
     let new = held_of c.step_into-step.new.self c.is_still_shown-shown.result in
     subst (λ (h : HeldView g.row.D.Denot). (why : Halt) → h.halt ≡ Some why → (c.next_of.result ≡ Some (Halted why)) × (new.halt ≡ Some why)
-    × ((p : Path) → records_since o new p ≡ records_since o h p)) c.self.view_is
+    × ((p : Path) → told_since o new p ≡ told_since o h p)) c.self.view_is
     (subst (λ (n : Option Next). (why : Halt) → i.table.halt ≡ Some why → (n ≡ Some (Halted why)) × (new.halt ≡ Some why)
-    × ((p : Path) → records_since o new p ≡ records_since o (held_of i.table i.shown) p)) (sym c.next_of.ensures)
+    × ((p : Path) → told_since o new p ≡ told_since o (held_of i.table i.shown) p)) (sym c.next_of.ensures)
     (held_halted g.D.Disk.state o c.args.path i.table c.step_into-step.new.self (step_with c.step_into-step.result c.step_into-step.new.moves) i.shown c.is_still_shown-shown.result
-    c.count-before.ensures.table c.count-before.ensures.within c.self.invariant c.step_into-step.ensures.step c.step_into-step.ensures.since c.step_into-step.ensures.owed
+    c.count-before.ensures.table c.count-before.ensures.within c.self.invariant c.step_into-step.ensures.step c.step_into-step.ensures.since c.step_into-step.ensures.resting c.step_into-step.ensures.rests
     (c.is_still_shown-shown.ensures c.step_into-step.new.moves ∙ lost_by i.shown (step_with c.step_into-step.result c.step_into-step.new.moves) (c.count-before.ensures.count) (c.count-after.ensures.count))))

@@ -39,14 +39,14 @@ invariant_of-self g c =
     let free : i.halt ≢ Some halt.Disk = search rules in
     let live : IsTrue c.flush.new.self.log.file.live = search rules in
     let history = c.flush.ensures.records.follows.history ∙ append-nil i.recording.history in
-    flushed_table g.D.Disk.state i.verified i.machine i.recording c.flush.new.self i.halt i.halt i.budget i.owed c.self.invariant c.flush.ensures.records
-    (reason_flushed i.machine.machine i.recording c.flush.new.self i.halt c.self.invariant.reason free live (c.in-Ok.ensures.flushed.flushed ∙ ap length (sym history)))
+    flushed_table g.D.Disk.state i.verified i.machine i.recording c.flush.new.self i.halt i.halt i.budget i.resting c.self.invariant c.flush.ensures.records
+    (reason_flushed i.machine.machine i.recording c.flush.new.self i.halt c.self.invariant.reason free live (c.in-Ok.ensures.flushed.flushed ∙ ap length (sym history))) (λ calm. calm)
 
 pub returns-in-Ok-clause-asks : goal.returns-in-Ok-clause-asks
 returns-in-Ok-clause-asks g c =
     let i = c.self.inside in
-    let old = table_of i.verified i.machine i.recording i.halt i.budget i.owed in
-    let new = table_of i.verified i.machine c.flush.new.self i.halt i.budget i.owed in
+    let old = table_of i.verified i.machine i.recording i.halt i.budget i.resting in
+    let new = table_of i.verified i.machine c.flush.new.self i.halt i.budget i.resting in
     let free : i.halt ≢ Some halt.Disk = search rules in
     let ahead : end_ahead old ≡ Some c.in_ok-end.end =
     subst (λ (t : TableView g.row.D.Denot). end_ahead t ≡ Some c.in_ok-end.end) (sym c.self.view_is) (search rules) in
@@ -58,7 +58,7 @@ returns-in-Ok-clause-asks g c =
 pub returns-in-Err-clause-asks : goal.returns-in-Err-clause-asks
 returns-in-Err-clause-asks g c =
     let i = c.self.inside in
-    let new = table_of i.verified i.machine c.flush.new.self (Some halt.Disk) i.budget i.owed in
+    let new = table_of i.verified i.machine c.flush.new.self (Some halt.Disk) i.budget i.resting in
     let free : i.halt ≢ Some halt.Disk = search rules in
     let history = c.flush.ensures.records.follows.history ∙ append-nil i.recording.history in
     let dead : c.flush.new.self.log.file.live ≡ false = search rules in

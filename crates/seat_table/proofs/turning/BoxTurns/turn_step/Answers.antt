@@ -5,4 +5,4 @@ use Rattle.seat_table.proofs.turning.BoxTurns.turn_step.Goals as goal
 
 pub returns-clause-answer : goal.returns-clause-answer
 returns-clause-answer g c = step_lifted c.args.self.now _ c.turn_step.new.self c.turn_step.result
-    (λ x next. Answers (g.C.Turns.records x c.args.path) next (g.C.Turns.records c.turn_step.new.self c.args.path)) c.as_mut.ensures.value c.turn_step.ensures.answer
+    (λ x next. Answers (g.C.Turns.told x c.args.path) next (g.C.Turns.told c.turn_step.new.self c.args.path)) c.as_mut.ensures.value c.turn_step.ensures.answer

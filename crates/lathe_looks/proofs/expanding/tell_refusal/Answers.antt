@@ -1,7 +1,0 @@
--- For the proof of `tell_refusal` (src/expanding.rt): if memory ran out, nothing is written.
-use Rattle.std.proofs.Common.{refl}
-use Rattle.lathe_calls.proofs.Ended.{ends_unwritten}
-use Rattle.lathe_looks.proofs.expanding.tell_refusal.Goals as goal
-
-pub returns-then-is_err : goal.returns-then-is_err
-returns-then-is_err g c = ends_unwritten _ _ _ refl

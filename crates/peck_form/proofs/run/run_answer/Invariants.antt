@@ -1,0 +1,9 @@
+-- What the definition gives for the blocks that are left, after the lines so far, is the answer (loop
+-- of `run_answer`, src/run.rt).
+use Rattle.std.proofs.Common.{◌≡◌, [], drop}
+use Rattle.peck_form.specs.Run.{run_from}
+use Rattle.peck_form.proofs.run.run_answer.Given as goal
+
+abbrev pub invariant-loop-block : goal.invariant-loop-block
+invariant-loop-block l =
+    run_from (drop l.block-index l.blocks) l.system l.settings l.said l.lines.items ≡ run_from l.blocks l.system l.settings l.before []

@@ -1,0 +1,3 @@
+-- The lemmas of rough_words.
+pub mod NothingEntered
+pub mod OncePass

@@ -1,0 +1,4 @@
+-- The lemmas of this crate, for its proofs alone.
+mod ExpansionTold
+mod PlainTold
+mod FitTexts

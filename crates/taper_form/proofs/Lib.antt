@@ -1,0 +1,3 @@
+-- The lemmas of taper_form.
+pub mod Rounds
+pub mod WrittenTapers

@@ -1,0 +1,2 @@
+-- The lemmas of thread_form.
+pub mod WrittenThreads
