@@ -400,7 +400,8 @@ WHEELED = """((view, ctrlKey) => {
   view.dispatchEvent(event);
   return event.defaultPrevented; })($('%s'), %s)"""
 SAVED = "$('saved').textContent"
-FIRST = ["At which codes and lines the two paths meet.", "Accepted, or the first refusal with its line and what to do.", "How the run ends that is drawn below."]
+FIRST = ["At which codes and lines the two paths meet.", "Accepted, or the first refusal with its line and what to do.", "How the run ends that is drawn below.",
+         "Which variables one path may write while the other uses them."]
 
 
 def rows_of_newcomers(row, page, room):
@@ -430,8 +431,8 @@ def rows_of_newcomers(row, page, room):
     row.equal("several are named together", run(SAVED), f"Saved in the browser's downloads: {', '.join(names)}")
     page.give(*pair(*DEADLOCK))
     run("(async () => { Judge.texts.forEach(text => text.setChanged(false)); $('judge-clear').click(); await new Promise(done => setTimeout(done, 50)); })()")
-    row.equal("a page that is cleared says what comes where", run("['waits', 'verdict', 'run'].map(part => $(`judge-${part}`).textContent)"), FIRST)
-    row.equal("and nothing of it is good or bad", run("document.querySelectorAll('.judge-said.bad, .judge-said.good, textarea.bad').length - $('judge-further').matches('.bad')"), 0)
+    row.equal("a page that is cleared says what comes where", run("['waits', 'verdict', 'run', 'races'].map(part => $(`judge-${part}`).textContent)"), FIRST)
+    row.equal("and nothing of it is good or bad", run("[...document.querySelectorAll('.judge-said.bad, .judge-said.good')].filter(part => part.checkVisibility()).map(part => part.id)"), [])
     page.give(read(GOOD[0]), b"", b"")
     row("one tape alone is no fault either", run("$('judge-verdict').className === 'judge-said'"), run("$('judge-verdict').className"))
     page.clear()
@@ -442,6 +443,7 @@ def rows_of_words(row, page):
     seen = page.give(*pair(*DEADLOCK))
     row.equal("the button that exchanges the tapes says what it swaps", page.run("$('judge-exchange').textContent"), "\u21c4 swap tapes")
     row("and what to do about two waits speaks of nothing like it", not re.search("swap|exchange", seen["said"]["verdict"]), seen["said"]["verdict"])
+    row.equal("that plain has nothing to write out is no fault", page.run("$('judge-plain').className"), "judge-said")
     tapes = lambda *codes: "\n".join(["%", "O1", *[f"M{code}" for code in codes], "M30", "%", ""]).encode()
     for before, words in (((), "At their first waits:"), ((105,), "After 1 equal wait:"), ((105, 105, 106), "After 3 equal waits:")):
         seen = page.give(tapes(*before, 101, 102), tapes(*before, 102, 101), b"")

@@ -211,7 +211,7 @@ const Judge = (() => {
   /** At first nothing is judged: the panel says what comes where. */
   function sayFirst() {
     const first = { waits: "At which codes and lines the two paths meet.", verdict: "Accepted, or the first refusal with its line and what to do.",
-                    run: "How the run ends that is drawn below." };
+                    run: "How the run ends that is drawn below.", races: "Which variables one path may write while the other uses them." };
     for (const part of Object.keys(first)) Answers.tell(part, null, first[part]);
   }
 
