@@ -1,9 +1,11 @@
 "use strict";
-// Mouse, pen and fingers on a canvas, and the keys. One finger or the mouse drags, two fingers come nearer, a tap chooses.
+// Mouse, pen and fingers on a canvas, and the keys. One finger or the mouse drags, two fingers come nearer, a tap chooses. The wheel alone
+// moves the page, as everywhere else on it; with Ctrl it comes nearer.
 
 const Hands = (() => {
   const REACH = { mouse: 7, pen: 10, touch: 22 };       // points of the page
   const TWICE = 350;                                   // milliseconds
+  const WHEEL = "Ctrl and the wheel: nearer, farther";
 
   /**
    * Watches a canvas. `hands` has: under(x, y, reach), which finds a segment; drag(dx, dy, from); zoom(by, x, y);
@@ -91,10 +93,13 @@ const Hands = (() => {
       Tables.tellPointer(canvas, "");
       Look.ask("over");
     });
+    // (two fingers on a pad come as a wheel with Ctrl)
     canvas.addEventListener("wheel", event => {
+      if (!Look.trace) return;
+      if (!event.ctrlKey && !event.metaKey) return Tables.tellPointer(canvas, WHEEL);
       event.preventDefault();
       const { x, y } = at(event), by = Math.max(-200, Math.min(200, event.deltaY * (event.deltaMode ? 30 : 1)));
-      if (Look.trace) hands.zoom(Math.exp(-by / 400), x, y);
+      hands.zoom(Math.exp(-by / 400), x, y);
     }, { passive: false });
   }
 

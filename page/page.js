@@ -199,6 +199,7 @@ const Page = (() => {
     showIn(which);
   });
   onEach("fit", which => Plane.fit(which === "all"));
+  onEach("zoom", by => { if (Look.trace) Plane.zoom(Number(by)); });
   onEach("show", what => { Look.shown[what] = !Look.shown[what]; Look.ask("plane", "over"); });
 
   /** Other rates make other times; the place in the run stays. */

@@ -1,14 +1,36 @@
 "use strict";
 // The picture as a file: the plane and the time line as they are looked at, with what the head says, on light paper.
 
-/** Lets the browser save something as a file of a name. */
+/** Lets the browser save something as a file of a name, and says so. */
 function download(name, content, type) {
   const link = element("a"), place = URL.createObjectURL(new Blob([content], { type }));
   link.href = place;
   link.download = name;
   link.click();
   setTimeout(() => URL.revokeObjectURL(place), 60000);
+  Saved.tell(name);
 }
+
+// Which files were given to the browser just now. Where they are is the browser's affair, which asks or has a folder for them.
+const Saved = (() => {
+  const LASTS = 15000;          // milliseconds
+  const names = new Set();
+  let ending = 0;
+
+  /** Says that a file of this name was saved, beside those of the last seconds. */
+  function tell(name) {
+    names.add(name);
+    show();
+    clearTimeout(ending);
+    ending = setTimeout(() => { names.clear(); show(); }, LASTS);
+  }
+
+  function show() {
+    $("saved").textContent = names.size ? `Saved in the browser's downloads: ${[...names].join(", ")}` : "";
+  }
+
+  return { tell };
+})();
 
 const Picture = (() => {
   const RATIO = 2, HEAD = 58, RIM = 12;         // pixels a point at least; points

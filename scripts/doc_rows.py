@@ -155,7 +155,7 @@ def judge(call, at):
 def look_at_readme():
     lines = read("README.md")
     words = sum(len(line.split()) for line in lines if not line.startswith("    "))
-    row("README.md", words <= 1000, f"{words} words outside of code")
+    row("README.md", words <= 700, f"{words} words outside of code")
     wide = [number for number, line in enumerate(lines, 1) if len(line) > 100]
     row("README.md", not wide, f"lines of more than 100 columns: {wide}")
     if os.path.exists(os.path.join(ROOT, "VERSION")):

@@ -393,6 +393,67 @@ def rows_of_loss(row, page, room):
     page.run("$('judge-keep').click()")
 
 
+# Turns the wheel over a canvas, with Ctrl or without, and tells whether the page keeps that for itself: if not, the browser scrolls.
+WHEELED = """((view, ctrlKey) => {
+  const { left, top } = view.getBoundingClientRect();
+  const event = new WheelEvent("wheel", { deltaY: -240, ctrlKey, clientX: left + 200, clientY: top + 90, bubbles: true, cancelable: true });
+  view.dispatchEvent(event);
+  return event.defaultPrevented; })($('%s'), %s)"""
+SAVED = "$('saved').textContent"
+FIRST = ["At which codes and lines the two paths meet.", "Accepted, or the first refusal with its line and what to do.", "How the run ends that is drawn below.",
+         "Which variables one path may write while the other uses them."]
+
+
+def rows_of_newcomers(row, page, room):
+    """What who sees the page for the first time may stumble over: the wheel, words with two meanings, what was saved, and a page that is cleared."""
+    run = page.run
+    page.clear()
+    page.give(*pair(*GOOD))
+    for view, size in (("plane", "Camera.now.scale"), ("times", "1 / (TimeLine.shown.to - TimeLine.shown.from)")):
+        before = run(size)
+        row.equal(f"{view}: the wheel alone is the page's, and zooms nothing", (run(WHEELED % (view, "false")), run(size)), (False, before))
+        row.equal(f"{view}: what zooms is told there", run("$('%s').textContent" % {"plane": "pointer", "times": "pointer-time"}[view]), "Ctrl and the wheel: nearer, farther")
+        row(f"{view}: with Ctrl it comes nearer", run(WHEELED % (view, "true")) and run(size) > before, before)
+    row.has("the help says so", run("$('help').textContent.replace(/\\s+/g, ' ')"), "Ctrl and the wheel, or two fingers: nearer and farther. The wheel alone moves the page.")
+    scale = run("Camera.now.scale")
+    for by in ("1.3", "0.77"):
+        run(f"document.querySelector('[data-zoom=\"{by}\"]').click()")
+        row(f"a button zooms by {by}", abs(run("Camera.now.scale") / scale - float(by)) < 1e-9, scale)
+        scale = run("Camera.now.scale")
+    row.equal("what zooms to the cuts says what it may leave out", run("[...document.querySelectorAll('[data-fit]')].map(button => `${button.textContent}: ${button.title}`)"),
+              ["zoom to cuts: The cuts fill the picture; rapids, starts and homes may lie outside it (0)", "zoom to all: All moves with their rapids, starts and homes"])
+    rows_of_words(row, page)
+    page.give(*pair(*GOOD))
+    names = "path1.nc", "settings.txt", "twin_lathe.png"
+    for name, button in zip(names, ("judge-left-save", "judge-cell-save", "save-picture")):
+        row(f"{name} is saved", saved(page, room, name, f"$('{button}').click()"))
+        row.has("and said to be", run(SAVED), name)
+    row.equal("several are named together", run(SAVED), f"Saved in the browser's downloads: {', '.join(names)}")
+    page.give(*pair(*DEADLOCK))
+    run("(async () => { Judge.texts.forEach(text => text.setChanged(false)); $('judge-clear').click(); await new Promise(done => setTimeout(done, 50)); })()")
+    row.equal("a page that is cleared says what comes where", run("['waits', 'verdict', 'run', 'races'].map(part => $(`judge-${part}`).textContent)"), FIRST)
+    row.equal("and nothing of it is good or bad", run("[...document.querySelectorAll('.judge-said.bad, .judge-said.good')].filter(part => part.checkVisibility()).map(part => part.id)"), [])
+    page.give(read(GOOD[0]), b"", b"")
+    row("one tape alone is no fault either", run("$('judge-verdict').className === 'judge-said'"), run("$('judge-verdict').className"))
+    page.clear()
+
+
+def rows_of_words(row, page):
+    """Words of an answer that are said in other words too, and a button whose name is no advice."""
+    seen = page.give(*pair(*DEADLOCK))
+    row.equal("the button that exchanges the tapes says what it swaps", page.run("$('judge-exchange').textContent"), "\u21c4 swap tapes")
+    row("and what to do about two waits speaks of nothing like it", not re.search("swap|exchange", seen["said"]["verdict"]), seen["said"]["verdict"])
+    row.equal("that plain has nothing to write out is no fault", page.run("$('judge-plain').className"), "judge-said")
+    tapes = lambda *codes: "\n".join(["%", "O1", *[f"M{code}" for code in codes], "M30", "%", ""]).encode()
+    for before, words in (((), "At their first waits:"), ((105,), "After 1 equal wait:"), ((105, 105, 106), "After 3 equal waits:")):
+        seen = page.give(tapes(*before, 101, 102), tapes(*before, 102, 101), b"")
+        line = 3 + len(before)
+        row.has(f"after {len(before)}: the refusal says where", seen["said"]["verdict"], f"after {len(before)}{words}path 1 line {line} M101path 2 line {line} M102")
+    for wait, words in ((b"", "before any meeting"), (b"M101\n", "after meeting 1")):
+        seen = page.give(b"%\nO1\n" + wait + b"M08\n#1=#500\nM30\n%\n", b"%\nO2\n" + wait + b"#500=1\nM30\n%\n", b"")
+        row.has(f"{words}: a race says who does what", seen["said"]["races"], f"{words} path 2 may write it, while path 1 has it")
+
+
 # The parts of the page whose letters are too near to what lies behind them, by the contrast of WCAG 2: 4.5 is the least for plain text.
 CONTRAST = """(() => {
   const numbers = colour => colour.match(/[\\d.]+/g).map(Number);
@@ -941,5 +1002,5 @@ def rows_of_length(row, page, room):
 
 
 GROUPS = {group.__name__.removeprefix("rows_of_"): group for group in (
-    rows_of_answers, rows_of_hands, rows_of_files, rows_of_saving, rows_of_habits, rows_of_looks, rows_of_refusals, rows_of_written,
+    rows_of_answers, rows_of_hands, rows_of_files, rows_of_saving, rows_of_newcomers, rows_of_habits, rows_of_looks, rows_of_refusals, rows_of_written,
     rows_of_contour, rows_of_states, rows_of_zones, rows_of_bodies, rows_of_readings, rows_of_rates, rows_of_typing, rows_of_faults, rows_of_requests, rows_of_length)}

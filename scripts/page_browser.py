@@ -215,8 +215,8 @@ class Browser:
         self.mouse("mouseReleased", to_x, to_y, button="left", clickCount=1)
         self.settle()
 
-    def wheel(self, x, y, by):
-        self.mouse("mouseWheel", x, y, deltaX=0, deltaY=by)
+    def wheel(self, x, y, by, control=False):
+        self.mouse("mouseWheel", x, y, deltaX=0, deltaY=by, modifiers=2 if control else 0)
         self.settle()
 
     def touch(self, kind, *points):

@@ -218,7 +218,7 @@ def rows_of_plane(row, hand, browser):
     row("a path can be hidden", hand.heights("plane", PURPLE) is None and hand.heights("plane", ORANGE) is not None)
     hand.press("[data-show='2']")
     hand.press("[data-fit=all]")
-    row("fit all shows home too", browser.run("""(() => {
+    row("zoom to all shows home too", browser.run("""(() => {
         const { home, firstShift } = Look.trace.paths[1], { width, height } = Camera.sheet;
         const x = Camera.xOf(home.z - firstShift.z), y = Camera.yOf((home.x - firstShift.x) / 2);
         return x > 0 && x < width && y > 0 && y < height; })()"""))
@@ -264,8 +264,14 @@ def rows_of_mouse(row, hand, browser):
     left, top = hand.corner()
     scale, fixed = browser.run("[Camera.now.scale, Camera.now.z + (300 - Camera.sheet.width / 2) / Camera.now.scale]")
     browser.wheel(left + 300, top + 200, -300)
-    row("the wheel comes nearer", browser.run("Camera.now.scale") > scale)
+    row.equal("the wheel alone leaves the picture as it is", browser.run("Camera.now.scale"), scale)
+    row.has("and how it comes nearer is told", hand.shown("#pointer"), "Ctrl and the wheel")
+    browser.wheel(left + 300, top + 200, -300, control=True)
+    row("the wheel with Ctrl comes nearer", browser.run("Camera.now.scale") > scale)
     row.near("and the point under it stays", browser.run(f"Camera.xOf({fixed})"), 300, 0.01)
+    scale = browser.run("Camera.now.scale")
+    hand.press("[data-zoom='1.3']")
+    row.near("a button comes nearer", browser.run("Camera.now.scale"), 1.3 * scale, 1e-9)
     before = browser.run("Camera.xOf(0)")
     browser.drag(left + 300, top + 300, left + 340, top + 320)
     row.near("dragging moves the plane with the hand", browser.run("Camera.xOf(0)") - before, 40, 1)
@@ -371,8 +377,8 @@ def rows_of_keys(row, hand, browser):
         if now in reached:
             break
         reached.append(now)
-    wanted = {"keys", "open", "exchange", "close-tapes", "tape-1", "tape-2", "plane", "coordinates work", "coordinates machine", "fit part",
-              "fit all", "show 1", "show 2", "show rapid", "stretch 0", "race", "play", "slider", "speed", "rapid", "change", "times"}
+    wanted = {"keys", "open", "exchange", "close-tapes", "tape-1", "tape-2", "plane", "coordinates work", "coordinates machine", "zoom 0.77", "zoom 1.3",
+              "fit part", "fit all", "show 1", "show 2", "show rapid", "stretch 0", "race", "play", "slider", "speed", "rapid", "change", "times"}
     row("the tabulator comes to everything", wanted <= set(reached), sorted(wanted - set(reached)))
     browser.run("$('meetings').querySelector('[tabindex=\"0\"]').focus()")
     browser.key("ArrowDown")

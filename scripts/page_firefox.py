@@ -117,7 +117,7 @@ class Firefox:
             time.sleep(0.1)
         with open(name, encoding="utf-8") as file:
             self.wire = Wire(json.load(file)["ws_port"], "/session")
-        self.call("session.new", capabilities={"alwaysMatch": {"unhandledPromptBehavior": {"default": "accept"}}})
+        self.call("session.new", seconds=300, capabilities={"alwaysMatch": {"unhandledPromptBehavior": {"default": "accept"}}})
         self.call("session.subscribe", events=["log.entryAdded", "browsingContext.userPromptOpened"])
         self.page = self.call("browsingContext.getTree")["contexts"][0]["context"]
         self.size(1400, 900)

@@ -36,10 +36,10 @@ const Answers = (() => {
 
   // ---- what is said ----
 
-  /** Puts these elements in the place of what a part of the panel said, in the looks of good or bad. */
+  /** Puts these elements in the place of what a part of the panel said, in the looks of good or bad, or of neither if that is null. */
   function tell(part, isGood, ...parts) {
     $(`judge-${part}`).replaceChildren(...parts);
-    $(`judge-${part}`).className = `judge-said ${isGood ? "good" : "bad"}`;
+    $(`judge-${part}`).className = `judge-said${isGood === null ? "" : isGood ? " good" : " bad"}`;
   }
 
   const sentence = text => element("p", "", text);
@@ -81,11 +81,17 @@ const Answers = (() => {
     tell(part, false, sentence(why[answer.kind]));
   }
 
+  /** What the `after` at the end of a refusal says: how many waits of both paths are equal before the two that it names. */
+  function afterText(line) {
+    const after = / after (\d+)$/.exec(line)?.[1];
+    return { undefined: "", 0: "At their first waits:", 1: "After 1 equal wait:" }[after] ?? `After ${after} equal waits:`;
+  }
+
   /** A line that refuses, with the text of the lines that it names. */
   function tellRefusal(part, line) {
-    const places = placesOf(line);
+    const places = placesOf(line), after = afterText(line);
     marks.set(part, places);
-    tell(part, false, element("p", "answer", line), ...places.map(quote));
+    tell(part, false, element("p", "answer", line), ...after ? [sentence(after)] : [], ...places.map(quote));
   }
 
   const addMeaning = (part, line) => $(`judge-${part}`).append(...meaningOf(numberOf(line)));
@@ -183,9 +189,16 @@ const Answers = (() => {
       sentence("If both lines are right whoever is first, leave it."));
   }
 
+  /** What a race is, in words. */
+  function raceText(text) {
+    const [, after, writer, other] = /^#\d+ after (\d+) path (\d) line \d+ path (\d) /.exec(text);
+    return `${after === "0" ? "before any meeting" : `after meeting ${after}`} path ${writer} may write it, while path ${other} has it`;
+  }
+
   /** A race; a click on it marks its two lines. */
   function raceRow(text) {
     const made = row(text);
+    made.append(element("small", "", ` ${raceText(text)}`));
     made.addEventListener("click", () => {
       marks.delete("hit");
       marks.set("races", placesOf(text));
@@ -238,5 +251,5 @@ const Answers = (() => {
     clear("waits");
   }
 
-  return { editors, show, showFurther, step, sayInstead, goTo, markHit, meaningOf, numberOf };
+  return { editors, show, showFurther, step, tell, sayInstead, goTo, markHit, meaningOf, numberOf };
 })();

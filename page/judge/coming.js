@@ -57,7 +57,7 @@ const Coming = (() => {
     left.set(...two);
     right.set(...one);
     const [first, second] = [left, right].map(text => text.fileName || "the other text");
-    tell({ said: [`Exchanged: path 1 has ${first}, path 2 has ${second}.`], isAsked: false });
+    tell({ said: [`Swapped: path 1 has ${first}, path 2 has ${second}.`], isAsked: false });
     ask();
   }
 

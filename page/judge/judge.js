@@ -134,7 +134,7 @@ const Judge = (() => {
   /** Says that a path has no tape; the picture is of other texts then. */
   function sayLacking(path) {
     setStale(true);
-    Answers.sayInstead(`Path ${path} has no tape yet.`, false);
+    Answers.sayInstead(`Path ${path} has no tape yet.`, null);
     setState("done");
   }
 
@@ -211,8 +211,8 @@ const Judge = (() => {
   /** At first nothing is judged: the panel says what comes where. */
   function sayFirst() {
     const first = { waits: "At which codes and lines the two paths meet.", verdict: "Accepted, or the first refusal with its line and what to do.",
-                    run: "How the run ends that is drawn below." };
-    for (const part of Object.keys(first)) $(`judge-${part}`).textContent = first[part];
+                    run: "How the run ends that is drawn below.", races: "Which variables one path may write while the other uses them." };
+    for (const part of Object.keys(first)) Answers.tell(part, null, first[part]);
   }
 
   // ---- what is kept and saved ----

@@ -144,7 +144,7 @@ const Written = (() => {
     const buttons = [0, 1].map(of => element("button", "", `path ${of + 1}, line beside line`));
     buttons.forEach((button, of) => button.addEventListener("click", () => open(of, "plain")));
     $("judge-plain").replaceChildren(element("p", "", ...said), ...(trace ? buttons : []));
-    $("judge-plain").className = `judge-said ${isDrawn ? "good" : "bad"}`;
+    $("judge-plain").className = `judge-said${isDrawn ? " good" : trace || refused >= 0 ? " bad" : ""}`;
     $("judge-plain-box").hidden = false;
     document.body.classList.toggle("plained", isDrawn);
   }
