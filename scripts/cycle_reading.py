@@ -433,7 +433,7 @@ class Chance:
         off = -1 if inner else 1
         # (clear of the crest at both ends)
         crest = end[0] + off * 2 * depth
-        start = (min if inner else max)(crest, crest + 2 * taper) + off * self.some(0, 5000), end[1] - on * length
+        start = (min if inner else max)(crest, crest + 2 * taper) + off * self.some(10, 5000), end[1] - on * length
         ends = [self.to("X", ways and "U", start[0], end[0]), self.to("Z", ways and "W", start[1], end[1])]
         lead = f"F{it.choice(('0.5', '1.', '1.5', '2', '3.175', '.75'))}"
         first, least, left = self.some(60, depth), self.some(0, 120), self.some(0, min(depth - 1, 90))
@@ -442,18 +442,18 @@ class Chance:
         if kind == "one":
             words = ends + [f"K{shown(depth)}", self.word("D", first), lead] + [self.word("I", taper)] * (taper != 0)
             words += it.choice(([], [f"A{it.choice((0, 29, 30, 55, 60, 80))}"], ["P1"]))
-            return begin + [self.mixed("G76", words)], depth
+            return begin + [self.mixed("G76", words)]
         if kind == "two":
             head = [f"P{it.randint(0, 4):02d}{it.randint(0, 25):02d}{it.choice((0, 29, 30, 55, 60, 80)):02d}", f"Q{least}", self.word("R", left)]
             body = ends + [f"P{depth}", f"Q{first}", lead] + [self.word("R", taper)] * (taper != 0)
-            return begin + [self.mixed("G76", it.sample(head, it.randint(1, 3))), self.mixed("G76", body)], depth
+            return begin + [self.mixed("G76", it.sample(head, it.randint(1, 3))), self.mixed("G76", body)]
         taper = taper or it.randint(-length // 4, length // 4)
-        start = (min if inner else max)(end[0], end[0] + 2 * taper) + off * self.some(0, 5000), end[1] - on * length
+        start = (min if inner else max)(end[0], end[0] + 2 * taper) + off * self.some(10, 5000), end[1] - on * length
         begin = [f"G00 {self.word('X', start[0])} {self.word('Z', start[1])} F0.3"]
         ends = [self.to("X", ways and "U", start[0], end[0]), self.to("Z", ways and "W", start[1], end[1])]
         lines = [self.mixed("G92" if ways else "G78", ends + [self.word("R", taper), lead])]
         lines += [self.word("X", end[0] - off * k * it.randint(0, 300)) for k in range(1, it.randint(1, 4)) if off > 0 or end[0] > start[0]]
-        return begin + lines + ["G00 X120."], 0
+        return begin + lines + ["G00 X120."]
 
     def taper(self, system):
         """A run of G90 or of G94 with tapers."""
@@ -461,7 +461,7 @@ class Chance:
         turns = it.random() < 0.5
         start, end = (self.some(60000, 90000), self.some(1000, 9000)), (self.some(20000, 59000), self.some(-50000, 0))
         code = {(True, True): "G90", (True, False): "G77", (False, True): "G94", (False, False): "G79"}[turns, ways]
-        room = (start[0] - end[0]) // 2 if turns else start[1] - end[1]
+        room = 500      # (no end lies nearer to the start)
         lines = [f"G00 {self.word('X', start[0])} {self.word('Z', start[1])}"]
         words = [self.to("X", ways and "U", start[0], end[0]), self.to("Z", ways and "W", start[1], end[1]),
                  self.word("R", it.randint(-9000, room)), f"F{it.choice(('0.1', '.25', '0.3'))}"]
@@ -521,24 +521,20 @@ class Chance:
         return " ".join([code] + self.random.sample(words, len(words)))
 
     def case(self):
-        """A tape of one or two cycles, and its settings."""
-        while True:
-            system = self.random.choice("AAB")
-            settings, lines = self.settings(system), ["G90 G00"] * (system == "B")
-            for _ in range(self.random.choice((1, 1, 2))):
+        """A tape of eight cycles, its settings, and what is read of it."""
+        system = self.random.choice("AAB")
+        settings, text, tape = self.settings(system), "G90|" * (system == "B"), None
+        for _ in range(8):
+            more = None
+            while more is None or len(more.lines) > (len(tape.lines) if tape else 0) + 600:
                 kind = self.random.choice((self.thread, self.thread, self.taper, self.grooves, self.holes, self.holes))
-                found = kind(system)
-                if kind == self.thread:
-                    found, depth = found
-                    if depth and depth <= settings_of(settings)["left"]:
-                        break
-                lines += found
-            else:
-                text = "|".join(lines) + "|"
+                next_text = text + "".join(f"{line}|" for line in kind(system))
                 try:
-                    return text, settings, Tape(text, settings)
+                    more = Tape(next_text, settings)
                 except Refused:
-                    pass
+                    more = None
+            text, tape = next_text, more
+        return text, settings, tape
 
 
 def write_cases(seed, count, folder):

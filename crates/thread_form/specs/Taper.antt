@@ -29,6 +29,7 @@ use Rattle.thread_form.specs.declared.taper.TaperStep.{TaperStep}
 use Rattle.thread_form.specs.declared.taper.TaperStep.TheVariants.{Ends, Stops, Cuts}
 use Rattle.thread_form.specs.Answers.{fault_cause}
 use Rattle.thread_form.specs.Coded.{coded_lines}
+use Rattle.thread_form.specs.TwoLines.{twice_cause}
 use Rattle.cycle_words.specs.Scenes.{start_of, way_cause, words_of, says_ends, refused, has_motion}
 
 -- the cycle's code, in millionths
@@ -51,7 +52,7 @@ letters_of B = codes "GXZRF"
 -- why the words of a block of a run are refused
 abbrev pub words_cause : System → List Word → Option PlainCause
 words_cause system words =
-    first_cause (unexpected_in (letters_of system) (taper_code system ∷ []) words)
+    first_cause (first_cause (unexpected_in (letters_of system) (taper_code system ∷ []) words) (twice_cause words))
     (first_cause (calculated_in (codes "XUZWRF") words) (if says_ends words then None else Some cause.NoForm))
 
 -- where an axis goes: to its word, or as far from the start, or where it went before

@@ -8,6 +8,7 @@ ghost use Rattle.thread_form.specs.Taper.{taper_code, is_taper, begins_taper, le
 
 use crate::answers::fault_cause;
 use crate::coded::coded_lines;
+use crate::two_lines::twice_cause;
 use code_tables::System;
 use cycle_words::{
     calculated_in, first_cause, has_motion, is_said, length_or, length_said, refused, says_ends,
@@ -81,7 +82,8 @@ pub fn letters_of(system: System) -> &'static [u8]
 fn words_cause(words: &[Word], system: System) -> Option<PlainCause>
     ensures { result ≡ words_cause system words.now }
 {
-    let strange = unexpected_in(words, letters_of(system), &[taper_code(system)]);
+    let letters = unexpected_in(words, letters_of(system), &[taper_code(system)]);
+    let strange = first_cause(letters, twice_cause(words));
     let calculated = calculated_in(words, b"XUZWRF");
     let ends = if says_ends(words) {
         None
