@@ -161,7 +161,7 @@ cuts_by said beside settings (Some inside) out words = Cuts (block_lines said (t
 
 -- what a hole may not say, or its lines
 abbrev pub fault_step : HoleSaid → ℤ → FormSettings → DrillCycle → List Word → Option PeckFault → HoleStep
-fault_step said beside settings hole words (Some fault) = Stops (hole_cause fault)
+fault_step said beside settings hole words (Some fault) = Stops (hole_cause (along_of said.code) fault)
 fault_step said beside settings hole words None = cuts_by said beside settings (in_blocks hole) (way_out hole) words
 
 -- the same, if the bottom is named

@@ -321,7 +321,7 @@ fn fault_step(
         step ≡ fault_step said.now beside settings.now hole.now words.now (hole_fault_of hole.now)) }
 {
     if let Some(fault) = hole.fault() {
-        return Ok(HoleStep::Stops(hole_cause(fault)));
+        return Ok(HoleStep::Stops(hole_cause(said.code.along(), fault)));
     }
     let step = cuts(alloc, words, said, beside, hole, settings)?;
     Ok(step)

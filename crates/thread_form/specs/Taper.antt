@@ -27,6 +27,7 @@ use Rattle.cycle_words.specs.Causes.{first_cause, calculated_in, unexpected_in}
 use Rattle.thread_form.specs.declared.taper.TaperSaid.{TaperSaid}
 use Rattle.thread_form.specs.declared.taper.TaperStep.{TaperStep}
 use Rattle.thread_form.specs.declared.taper.TaperStep.TheVariants.{Ends, Stops, Cuts}
+use Rattle.thread_form.specs.declared.answers.ThreadWords.TheVariants.{OfRun}
 use Rattle.thread_form.specs.Answers.{fault_cause}
 use Rattle.thread_form.specs.Coded.{coded_lines}
 use Rattle.thread_form.specs.TwoLines.{twice_cause}
@@ -99,7 +100,7 @@ blocks_step system (Some blocks) = Cuts (coded_lines system blocks)
 
 -- what a pass is in the run: what it can't do, or its blocks
 abbrev pub step_by : System → Option ThreadFault → Option (List PlainBlock) → TaperStep
-step_by system (Some fault) blocks = Stops (fault_cause fault)
+step_by system (Some fault) blocks = Stops (fault_cause OfRun fault)
 step_by system None blocks = blocks_step system blocks
 
 abbrev pub pass_step : System → ThreadCycle → TaperStep
