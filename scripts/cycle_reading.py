@@ -216,6 +216,8 @@ class Holes:
     def blocks(self, block, at):
         """The blocks of a block of the run, from where the tool is."""
         words, axis, said = block.said, self.axis, self.said
+        # (another code of the axis goes on with what is in force)
+        self.kind = next((HOLES[c][1] for c in block.codes if c in HOLES), self.kind)
         other, way = ("Z", "W") if axis == "X" else ("X", "U")
         size = 2 if axis == "X" else 1
         if said["system"] == "B":
@@ -286,8 +288,9 @@ class Tape:
             self.keep(block)
 
     def keep(self, block):
-        """A block of the language stays."""
-        self.lines.append(block.text)
+        """A block of the language stays, without words that move nothing."""
+        idle = [word for word in block.text.split() if word[0] in self.said["idle"]]
+        self.lines.append(" ".join(word for word in block.text.split() if word not in idle) + f" ({block.line})" if idle else block.text)
         self.level = next((c for c in block.codes if c in (98, 99)), self.level) if self.said["system"] == "B" else 98
         self.motion = next((self.plain[c] for c in block.codes if c in self.plain), self.motion)
         if "F" in block.said:
@@ -348,12 +351,11 @@ class Tape:
         self.write(block, found, self.motion == 1)
 
     def in_run(self):
-        """The blocks from here on that are of a run: up to a code of motion or G80, or other holes."""
-        first = self.blocks[self.n]
-        own = [c for c in first.codes if c in HOLES]
+        """The blocks from here on that are of a run: up to a code of motion or G80, or holes along the other axis."""
+        axes = {HOLES[c][0] for c in self.blocks[self.n].codes if c in HOLES}
         while self.n < len(self.blocks):
             block = self.blocks[self.n]
-            if any(c in (0, 1, 2, 3, 32, 33, 80) for c in block.codes) or own and any(c in HOLES and c not in own for c in block.codes):
+            if any(c in (0, 1, 2, 3, 32, 33, 80) or c in HOLES and HOLES[c][0] not in axes for c in block.codes):
                 break
             yield block
             self.n += 1
@@ -513,6 +515,11 @@ class Chance:
                                [self.word("U" if axis == "Z" else "W", -self.some(0, 3000))] if ways else [self.word(other, 7000)],
                                [self.word(other, self.some(0, 20000)), self.word("R", -down // 2), f"P{it.randint(0, 300)}", "F.15"],
                                [self.word(other, self.some(0, 20000)), f"K{it.randint(0, 4)}"] + [f"Q{it.randint(500, 4000)}"] * (kind == "drill")))
+            if it.random() < 0.2:
+                code = it.choice([c for c in HOLES if HOLES[c][0] == axis])
+                kind = HOLES[code][1]
+                words.insert(0, f"G{code}")
+            words = [word for word in words if kind == "drill" or word[0] != "Q"]
             lines.append(" ".join(level() + words))
         return lines + ["G80"] * it.randint(0, 1) + ["G00 X100."]
 
