@@ -1,5 +1,5 @@
 -- What a cause of a groove or a hole is for its words. src/answers.rt has it. 80 is the letter P, 81
--- Q, 82 R, 90 Z.
+-- Q, 82 R.
 use Rattle.std.specs.Prelude.{ℕ}
 use Rattle.peck_cycle.specs.declared.along.Along.{Along}
 use Rattle.peck_cycle.specs.declared.along.Along.TheVariants.{Z, X}
@@ -22,10 +22,10 @@ groove_cause along NoPeck = Range (letter_of_peck along)
 groove_cause along NoStep = Range (letter_of_peck (other_axis along))
 groove_cause along WrongSide = Start
 
--- of a hole
-abbrev pub hole_cause : PeckFault → PlainCause
-hole_cause TooLarge = Position
-hole_cause NoDepth = Range 90
-hole_cause NoPeck = Range 81
-hole_cause NoStep = Range 81
-hole_cause WrongSide = Range 82
+-- of a hole along an axis
+abbrev pub hole_cause : Along → PeckFault → PlainCause
+hole_cause along TooLarge = Position
+hole_cause along NoDepth = Range (letter_of_place along)
+hole_cause along NoPeck = Range 81
+hole_cause along NoStep = Range 81
+hole_cause along WrongSide = Range 82

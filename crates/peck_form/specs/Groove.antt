@@ -26,6 +26,7 @@ use Rattle.cycle_words.specs.Causes.{first_cause, calculated_in, no_count_in, un
 use Rattle.cycle_words.specs.Lines.{lines_of}
 use Rattle.cycle_words.specs.Motion.{scene_cause, code_lines}
 use Rattle.cycle_words.specs.Scenes.{start_of, words_of, says_ends, refused}
+use Rattle.line_words.specs.Lines.{twice_of}
 use Rattle.peck_form.specs.Answers.{groove_cause}
 
 -- the code of a groove along an axis, in millionths
@@ -59,11 +60,15 @@ head_cause along head =
     first_cause (unexpected_in (codes "GR") (groove_code along ∷ []) head)
     (first_cause (calculated_in (codes "R") head) (relief_cause head))
 
+-- an axis is named twice
+abbrev pub twice_cause : List Word → Option PlainCause
+twice_cause words = first_cause (twice_of 88 85 words) (twice_of 90 87 words)
+
 -- why the second line is refused
 abbrev pub body_cause : Along → Scene → List Word → Option PlainCause
 body_cause along scene body =
     first_cause
-    (first_cause (unexpected_in (codes "GXUZWPQRF") (groove_code along ∷ []) body)
+    (first_cause (first_cause (unexpected_in (codes "GXUZWPQRF") (groove_code along ∷ []) body) (twice_cause body))
     (first_cause (calculated_in (codes "XUZWPQRF") body) (no_count_in (codes "PQ") body)))
     (first_cause (relief_cause body) (scene_cause scene))
 

@@ -20,7 +20,7 @@ use Rattle.peck_form.specs.declared.kind.HoleKind.{HoleKind}
 use Rattle.peck_form.specs.declared.kind.HoleKind.TheVariants.{Drill, Tap, Bore}
 use Rattle.peck_form.specs.declared.hole.HoleSaid.{HoleSaid}
 use Rattle.peck_form.specs.Groove.{doubled}
-use Rattle.peck_form.specs.Kinds.{kind_of, along_of, level_said, letter_of_place, letter_of_way, other_axis}
+use Rattle.peck_form.specs.Kinds.{kind_of, along_of, code_said, level_said, letter_of_place, letter_of_way, other_axis}
 
 -- a way and a size along an axis: in X words count radii
 abbrev pub scaled_way : Along → ℤ → ℤ
@@ -87,7 +87,7 @@ feed_said before words = feed_or before (value_said 70 words)
 -- what is in force after the words of a block
 abbrev pub hole_after : HoleSaid → System → List Word → HoleSaid
 hole_after said system words = record {
-  code = said.code;
+  code = code_said said.code words;
   start = said.start;
   beside = beside_said (along_of said.code) said.beside words;
   bottom = bottom_said (along_of said.code) said.bottom words;

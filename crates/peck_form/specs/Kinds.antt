@@ -1,7 +1,6 @@
 -- The kinds of holes, by their codes. src/kind.rt reads them. The letters are bytes: 85 U, 87 W, 88 X,
 -- 90 Z.
-use Rattle.std.specs.Prelude.{ℕ, Bool, true, false, not, ◌||◌, List, [], ◌∷◌, Option, Some, None, ℤ, pos, if◌then◌else◌}
-use Rattle.std.specs.Ordering.{int_eq}
+use Rattle.std.specs.Prelude.{ℕ, Bool, true, false, ◌||◌, List, [], ◌∷◌, Option, Some, None, ℤ, pos, if◌then◌else◌}
 use Rattle.code_tables.specs.declared.system.System.{System}
 use Rattle.code_tables.specs.declared.system.System.TheVariants.{A, B}
 use Rattle.line_text.specs.declared.body.Word.{Word}
@@ -63,15 +62,33 @@ hole_code words =
     then Some BoreZ
     else hole_code_in_x words
 
--- another code of holes
-abbrev pub is_other : HoleCode → Option HoleCode → Bool
-is_other code None = false
-is_other code (Some other) = not (int_eq (number_of other) (number_of code))
+-- two axes are not the same
+abbrev pub are_two : Along → Along → Bool
+are_two Z Z = false
+are_two Z X = true
+are_two X Z = true
+are_two X X = false
+
+-- the code in force in a run after words: another one of its axis takes the place of the one before
+abbrev pub code_by : HoleCode → HoleCode → HoleCode
+code_by before code = if are_two (along_of before) (along_of code) then before else code
+
+abbrev pub code_or : HoleCode → Option HoleCode → HoleCode
+code_or before None = before
+code_or before (Some code) = code_by before code
+
+abbrev pub code_said : HoleCode → List Word → HoleCode
+code_said before words = code_or before (hole_code words)
+
+-- a code of holes along the other axis
+abbrev pub is_across : HoleCode → Option HoleCode → Bool
+is_across code None = false
+is_across code (Some other) = are_two (along_of code) (along_of other)
 
 -- a block ends a run of holes
 abbrev pub ends_run : HoleCode → System → List Word → Bool
 ends_run code system words =
-    if has_code (pos 80000000) words || has_motion system words then true else is_other code (hole_code words)
+    if has_code (pos 80000000) words || has_motion system words then true else is_across code (hole_code words)
 
 -- the level that words name in system B, or the one before
 abbrev pub level_in_b : ReturnLevel → List Word → ReturnLevel

@@ -1,5 +1,5 @@
 -- A run of holes: what each block of it is, and what is answered. src/run.rt makes the answer. The
--- letters are bytes: 71 G, 75 K.
+-- letters are bytes: 71 G, 75 K, 81 Q.
 use Rattle.std.specs.Prelude.{ℕ, zero, suc, Bool, not, ◌&&◌, ◌||◌, ◌==◌, nat_lt, List, [], ◌∷◌, ◌++◌, codes, Option, Some, None, ℤ, pos, if◌then◌else◌}
 use Rattle.std.specs.List.{list_any, list_all}
 use Rattle.code_tables.specs.declared.system.System.{System}
@@ -29,11 +29,14 @@ use Rattle.cycle_words.specs.Motion.{code_lines}
 use Rattle.cycle_words.specs.Scenes.{words_of, says_ends, refused}
 use Rattle.peck_form.specs.declared.turns.Turns.{Turns}
 use Rattle.peck_form.specs.declared.kind.HoleCode.{HoleCode}
+use Rattle.peck_form.specs.declared.kind.HoleKind.{HoleKind}
+use Rattle.peck_form.specs.declared.kind.HoleKind.TheVariants.{Drill, Tap, Bore}
 use Rattle.peck_form.specs.declared.hole.HoleSaid.{HoleSaid}
 use Rattle.peck_form.specs.declared.run.HoleStep.{HoleStep}
 use Rattle.peck_form.specs.declared.run.HoleStep.TheVariants.{Ends, Stops, Cuts}
 use Rattle.peck_form.specs.declared.run.TheConstants.{MOST_REPEATS}
 use Rattle.peck_form.specs.Answers.{hole_cause}
+use Rattle.peck_form.specs.Groove.{twice_cause}
 use Rattle.peck_form.specs.Holes.{hole_after, level_of, bottom_of, hole_to}
 use Rattle.peck_form.specs.Turns.{turns_of, turn_lines}
 use Rattle.peck_form.specs.Kinds.{kind_of, along_of, number_of, ends_run, letter_of_place, letter_of_way, other_axis}
@@ -91,11 +94,22 @@ repeats_cause along words =
     then Some (cause.Range 75)
     else None
 
+-- a Q beside holes that have no pecks
+abbrev pub kind_cause : HoleKind → List Word → Option PlainCause
+kind_cause Drill words = None
+kind_cause Tap words = if is_said 81 words then Some (cause.Unexpected 81) else None
+kind_cause Bore words = if is_said 81 words then Some (cause.Unexpected 81) else None
+
+-- words that the hole can't have: that Q, or an axis that is named twice
+abbrev pub strange_words : HoleCode → List Word → Option PlainCause
+strange_words code words = first_cause (kind_cause (kind_of code) words) (twice_cause words)
+
 -- why the words of a block of a run can't be read
 abbrev pub read_cause : HoleCode → System → FormSettings → List Word → Option PlainCause
 read_cause code system settings words =
     first_cause (strange_cause code system settings words)
-    (first_cause (calculated_in (codes "XUZWRQPFK") words) (no_count_in (codes "QPK") words))
+    (first_cause (strange_words code words)
+    (first_cause (calculated_in (codes "XUZWRQPFK") words) (no_count_in (codes "QPK") words)))
 
 -- a block names no axis, and so is no hole
 abbrev pub axis_cause : FormSettings → List Word → Option PlainCause
@@ -147,7 +161,7 @@ cuts_by said beside settings (Some inside) out words = Cuts (block_lines said (t
 
 -- what a hole may not say, or its lines
 abbrev pub fault_step : HoleSaid → ℤ → FormSettings → DrillCycle → List Word → Option PeckFault → HoleStep
-fault_step said beside settings hole words (Some fault) = Stops (hole_cause fault)
+fault_step said beside settings hole words (Some fault) = Stops (hole_cause (along_of said.code) fault)
 fault_step said beside settings hole words None = cuts_by said beside settings (in_blocks hole) (way_out hole) words
 
 -- the same, if the bottom is named

@@ -30,12 +30,12 @@ fn letter_of_peck(along: Along) -> u8
 }
 
 /// What a cause of a hole is for its words.
-pub(crate) fn hole_cause(fault: PeckFault) -> PlainCause
-    ensures { result ≡ hole_cause fault }
+pub(crate) fn hole_cause(along: Along, fault: PeckFault) -> PlainCause
+    ensures { result ≡ hole_cause along fault }
 {
     match fault {
         PeckFault::TooLarge => PlainCause::Position,
-        PeckFault::NoDepth => PlainCause::Range(b'Z'),
+        PeckFault::NoDepth => PlainCause::Range(letter_of_place(along)),
         PeckFault::NoPeck => PlainCause::Range(b'Q'),
         PeckFault::NoStep => PlainCause::Range(b'Q'),
         PeckFault::WrongSide => PlainCause::Range(b'R'),

@@ -1,7 +1,7 @@
 //! G74 and G75: `G74 R` with how far the tool draws back, and `G74 X Z P Q R F`.
 ghost use Rattle.std.specs.Prelude.{◌≡◌, ◌≤◌, IfOk, option_copied, unsigned_abs};
 ghost use Rattle.nc_number.specs.declared.limits.TheConstants.{LONGEST_SAID};
-ghost use Rattle.peck_form.specs.Groove.{groove_code, retreat_of, is_retreat_line, retreat_said, retreat_from, relief_cause, head_cause, body_cause, relief_of, doubled, along_z, along_x, groove_of, written, plain_lines, groove_lines, body_answer, next_answer, groove_answer};
+ghost use Rattle.peck_form.specs.Groove.{groove_code, retreat_of, is_retreat_line, retreat_said, retreat_from, relief_cause, head_cause, twice_cause, body_cause, relief_of, doubled, along_z, along_x, groove_of, written, plain_lines, groove_lines, body_answer, next_answer, groove_answer};
 
 use crate::answers::groove_cause;
 use code_tables::CodeKind;
@@ -10,6 +10,7 @@ use cycle_words::{
     place_said, push_code_before, refused, says_ends, scene_cause, start_of, unexpected_in,
     value_said, words_of,
 };
+use line_words::twice_of;
 use nc_number::{ListOf, Point, Value};
 use nc_text::{Block, Word};
 use peck_cycle::{Along, GrooveCycle, Pecks, Retreat};
@@ -88,11 +89,19 @@ fn head_cause(head: &[Word], along: Along) -> Option<PlainCause>
     first_cause(strange, first_cause(calculated, relief_cause(head)))
 }
 
+/// That an axis is named twice: X beside U, or Z beside W.
+pub(crate) fn twice_cause(words: &[Word]) -> Option<PlainCause>
+    ensures { result ≡ twice_cause words.now }
+{
+    first_cause(twice_of(words, b'X', b'U'), twice_of(words, b'Z', b'W'))
+}
+
 /// Why the second line is refused.
 fn body_cause(body: &[Word], along: Along, scene: &Scene) -> Option<PlainCause>
     ensures { result ≡ body_cause along scene.now body.now }
 {
-    let strange = unexpected_in(body, b"GXUZWPQRF", &[groove_code(along)]);
+    let letters = unexpected_in(body, b"GXUZWPQRF", &[groove_code(along)]);
+    let strange = first_cause(letters, twice_cause(body));
     let calculated = calculated_in(body, b"XUZWPQRF");
     let counts = no_count_in(body, b"PQ");
     let words = first_cause(strange, first_cause(calculated, counts));

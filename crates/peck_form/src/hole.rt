@@ -4,7 +4,9 @@ ghost use Rattle.nc_number.specs.declared.limits.TheConstants.{LONGEST_SAID};
 ghost use Rattle.peck_form.specs.Holes.{scaled_way, scaled, bottom_said, moved_from, beside_said, point_r_said, peck_said, dwell_said, feed_said, hole_after, level_of, moved_near, bottom_of, has_pecks, pecks_of, way_out_of, hole_to};
 
 use crate::groove::doubled;
-use crate::kind::{HoleCode, HoleKind, letter_of_place, letter_of_way, level_said, other_axis};
+use crate::kind::{
+    HoleCode, HoleKind, code_said, letter_of_place, letter_of_way, level_said, other_axis,
+};
 use code_tables::{CodeKind, System};
 use cycle_words::{count_said, length_said, value_said};
 use nc_number::{Axis, LONGEST_SAID, Value};
@@ -156,7 +158,7 @@ impl HoleSaid {
     {
         let along = self.code.along();
         HoleSaid {
-            code: self.code,
+            code: code_said(words, &self.code),
             start: self.start,
             beside: beside_said(words, along, self.beside),
             bottom: bottom_said(words, along, &self.bottom),

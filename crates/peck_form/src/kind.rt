@@ -2,7 +2,7 @@
 //! first of each along Z, the other in X.
 ghost use Rattle.std.specs.Prelude.{◌≡◌};
 ghost use Rattle.peck_cycle.specs.declared.drill.ReturnLevel.TheVariants.{Start};
-ghost use Rattle.peck_form.specs.Kinds.{kind_of, along_of, number_of, hole_code, hole_code_in_x, ends_run, level_said, level_in_b, level_from, letter_of_place, letter_of_way, other_axis};
+ghost use Rattle.peck_form.specs.Kinds.{kind_of, along_of, number_of, hole_code, hole_code_in_x, are_two, code_by, code_said, ends_run, level_said, level_in_b, level_from, letter_of_place, letter_of_way, other_axis};
 
 use code_tables::System;
 use cycle_words::{has_motion, words_of};
@@ -114,7 +114,41 @@ fn hole_code_in_x(words: &[Word]) -> Option<HoleCode>
     None
 }
 
-/// Whether a block ends a run of holes: by G80, a code of motion, or the code of other holes.
+/// Whether two axes are not the same.
+fn are_two(one: Along, other: Along) -> bool
+    ensures { result ≡ are_two one other }
+{
+    match (one, other) {
+        (Along::Z, Along::Z) => false,
+        (Along::Z, Along::X) => true,
+        (Along::X, Along::Z) => true,
+        (Along::X, Along::X) => false,
+    }
+}
+
+/// The code of a run after another one, which takes its place if it is of the same axis.
+fn code_by(before: &HoleCode, code: &HoleCode) -> HoleCode
+    ensures { result ≡ code_by before.now code.now }
+{
+    if are_two(before.along(), code.along()) {
+        *before
+    } else {
+        *code
+    }
+}
+
+/// The code in force in a run after words, or the one before.
+pub(crate) fn code_said(words: &[Word], before: &HoleCode) -> HoleCode
+    ensures { result ≡ code_said before.now words.now }
+{
+    match hole_code(words) {
+        Some(code) => code_by(before, &code),
+        None => *before,
+    }
+}
+
+/// Whether a block ends a run of holes: by G80, a code of motion, or a code of holes along the other
+/// axis.
 pub(crate) fn ends_run(words: &[Word], code: &HoleCode, system: System) -> bool
     ensures { result ≡ ends_run code.now system words.now }
 {
@@ -122,7 +156,7 @@ pub(crate) fn ends_run(words: &[Word], code: &HoleCode, system: System) -> bool
         return true;
     }
     match hole_code(words) {
-        Some(other) => other.number() != code.number(),
+        Some(other) => are_two(code.along(), other.along()),
         None => false,
     }
 }

@@ -1,14 +1,15 @@
-//! A run of holes: the block with the code, and each after it that has a word of an axis, up to G80
-//! or a code of motion.
+//! A run of holes: the block with the code, and each after it that has a word of an axis, up to G80,
+//! a code of motion, or holes along the other axis.
 ghost use Rattle.std.specs.Prelude.{◌≡◌, ◌++◌, ◌∷◌, [], IfOk, OnOk, None};
 ghost use Rattle.peck_cycle.specs.Drills.{in_blocks, way_out};
 ghost use Rattle.peck_cycle.specs.Faults.{hole_fault_of};
 ghost use Rattle.peck_form.specs.Holes.{level_of, bottom_of};
-ghost use Rattle.peck_form.specs.Run.{letters_of, is_idle, is_strange, strange_letter, names_axis, has_idle, strange_cause, are_known, repeats_cause, read_cause, axis_cause, words_cause, hole_lines, repeated, says_beside, beside_lines, block_lines, cuts_by, fault_step, bottom_step, level_step, said_step, block_step, run_from};
+ghost use Rattle.peck_form.specs.Run.{letters_of, is_idle, is_strange, strange_letter, names_axis, has_idle, strange_cause, are_known, kind_cause, strange_words, repeats_cause, read_cause, axis_cause, words_cause, hole_lines, repeated, says_beside, beside_lines, block_lines, cuts_by, fault_step, bottom_step, level_step, said_step, block_step, run_from};
 
 use crate::answers::hole_cause;
+use crate::groove::twice_cause;
 use crate::hole::{HoleSaid, bottom_of};
-use crate::kind::{HoleCode, ends_run, letter_of_place, letter_of_way, other_axis};
+use crate::kind::{HoleCode, HoleKind, ends_run, letter_of_place, letter_of_way, other_axis};
 use crate::turns::{Turns, push_turn, turns_of};
 use code_tables::System;
 use cycle_words::{
@@ -130,6 +131,28 @@ fn repeats_cause(words: &[Word], along: Along) -> Option<PlainCause>
     }
 }
 
+/// That Q stands beside holes that have no pecks.
+fn kind_cause(words: &[Word], kind: HoleKind) -> Option<PlainCause>
+    ensures { result ≡ kind_cause kind words.now }
+{
+    let said = if is_said(words, b'Q') {
+        Some(PlainCause::Unexpected(b'Q'))
+    } else {
+        None
+    };
+    match kind {
+        HoleKind::Drill => None,
+        HoleKind::Tap | HoleKind::Bore => said,
+    }
+}
+
+/// Words that the hole can't have: that Q, or an axis that is named twice.
+fn strange_words(words: &[Word], code: &HoleCode) -> Option<PlainCause>
+    ensures { result ≡ strange_words code.now words.now }
+{
+    first_cause(kind_cause(words, code.kind()), twice_cause(words))
+}
+
 /// Why the words of a block of a run can't be read.
 fn read_cause(
     words: &[Word],
@@ -142,7 +165,8 @@ fn read_cause(
     let strange = strange_cause(words, code, system, settings);
     let calculated = calculated_in(words, b"XUZWRQPFK");
     let counts = no_count_in(words, b"QPK");
-    first_cause(strange, first_cause(calculated, counts))
+    let numbers = first_cause(calculated, counts);
+    first_cause(strange, first_cause(strange_words(words, code), numbers))
 }
 
 /// That a block names no axis, and so is no hole.
@@ -297,7 +321,7 @@ fn fault_step(
         step ≡ fault_step said.now beside settings.now hole.now words.now (hole_fault_of hole.now)) }
 {
     if let Some(fault) = hole.fault() {
-        return Ok(HoleStep::Stops(hole_cause(fault)));
+        return Ok(HoleStep::Stops(hole_cause(said.code.along(), fault)));
     }
     let step = cuts(alloc, words, said, beside, hole, settings)?;
     Ok(step)

@@ -1,5 +1,5 @@
--- What is answered of a threading cycle. src/answers.rt makes it. 70 is the letter F, 80 P, 82 R,
--- 90 Z.
+-- What is answered of a threading cycle. src/answers.rt makes it. 70 is the letter F, 73 I, 75 K, 80
+-- P, 82 R, 88 X, 90 Z.
 use Rattle.std.specs.Prelude.{ℕ, Bool, true, false, List, [], ◌∷◌, ◌++◌, Option, Some, None, unwrap_or, if◌then◌else◌}
 use Rattle.nc_text.specs.declared.tape.Block.{Block}
 use Rattle.plain_block.specs.declared.block.PlainBlock.{PlainBlock}
@@ -18,16 +18,41 @@ use Rattle.cycle_words.specs.Motion.{code_lines}
 use Rattle.cycle_words.specs.Scenes.{refused}
 use Rattle.thread_form.specs.Coded.{coded_lines}
 use Rattle.thread_form.specs.declared.answers.CycleLines.{CycleLines}
+use Rattle.thread_form.specs.declared.answers.ThreadWords.{ThreadWords}
+use Rattle.thread_form.specs.declared.answers.ThreadWords.TheVariants.{OfTwoLines, OfOneLine, OfRun}
+
+-- the letter of the depth: a run has none, and its end alone may be too large
+abbrev pub letter_of_depth : ThreadWords → ℕ
+letter_of_depth OfTwoLines = 80
+letter_of_depth OfOneLine = 75
+letter_of_depth OfRun = 88
+
+-- the letter of the taper
+abbrev pub letter_of_taper : ThreadWords → ℕ
+letter_of_taper OfTwoLines = 82
+letter_of_taper OfOneLine = 73
+letter_of_taper OfRun = 82
+
+-- the letter of what leaves nothing to cut: in one line it is the depth
+abbrev pub letter_of_left : ThreadWords → ℕ
+letter_of_left OfTwoLines = 82
+letter_of_left OfOneLine = 75
+letter_of_left OfRun = 82
 
 -- what a cause of a cycle is for its words
-abbrev pub fault_cause : ThreadFault → PlainCause
-fault_cause AllLeft = Range 82
-fault_cause TooLarge = Range 80
-fault_cause NoPass = Setting
-fault_cause NoLead = Range 70
-fault_cause Short = Range 90
-fault_cause Steep = Range 82
-fault_cause BelowCrest = Start
+abbrev pub fault_cause : ThreadWords → ThreadFault → PlainCause
+fault_cause words AllLeft = Range (letter_of_left words)
+fault_cause words TooLarge = Range (letter_of_depth words)
+fault_cause words NoPass = Setting
+fault_cause words NoLead = Range 70
+fault_cause words Short = Range 90
+fault_cause words Steep = Range (letter_of_taper words)
+fault_cause words BelowCrest = Start
+
+-- the words of a G76
+abbrev pub words_of_lines : Option ℕ → ThreadWords
+words_of_lines (Some head) = OfTwoLines
+words_of_lines None = OfOneLine
 
 -- a cause is of the line with the choices of the passes
 abbrev pub is_of_head : ThreadFault → Bool
@@ -62,7 +87,7 @@ blocks_answer lines scene (Some blocks) = written lines.head (cycle_lines scene 
 
 -- what the cycle may not say, or its blocks
 abbrev pub answer_by : CycleLines → Scene → Option ThreadFault → Option (List PlainBlock) → FormAnswer
-answer_by lines scene (Some fault) blocks = refused (fault_line lines fault) (fault_cause fault)
+answer_by lines scene (Some fault) blocks = refused (fault_line lines fault) (fault_cause (words_of_lines lines.head) fault)
 answer_by lines scene None blocks = blocks_answer lines scene blocks
 
 -- the answer to a G76

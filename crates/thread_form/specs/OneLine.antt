@@ -15,7 +15,7 @@ use Rattle.cycle_words.specs.Numbers.{length_or, count_or, is_said}
 use Rattle.cycle_words.specs.Causes.{first_cause, calculated_in, no_count_in, missing_of, unexpected_in}
 use Rattle.cycle_words.specs.Motion.{scene_cause}
 use Rattle.thread_form.specs.Rounding.{rounding_of}
-use Rattle.thread_form.specs.TwoLines.{thread_code, ends_cause, feed_cause, lead_of, target_of}
+use Rattle.thread_form.specs.TwoLines.{thread_code, twice_cause, ends_cause, feed_cause, lead_of, target_of}
 
 -- K and D are not negative, A is an angle that the cycle knows, P is 1
 abbrev pub range_cause : List Word → Option PlainCause
@@ -40,7 +40,7 @@ number_letters = codes "XUZWIKDAPF"
 -- why its words can't be read
 abbrev pub read_cause : List Word → Option PlainCause
 read_cause words =
-    first_cause (unexpected_in line_letters (thread_code ∷ []) words)
+    first_cause (first_cause (unexpected_in line_letters (thread_code ∷ []) words) (twice_cause words))
     (first_cause (calculated_in number_letters words) (no_count_in (codes "AP") words))
 
 -- a word is missing

@@ -27,8 +27,10 @@ use Rattle.cycle_words.specs.Causes.{first_cause, calculated_in, unexpected_in}
 use Rattle.thread_form.specs.declared.taper.TaperSaid.{TaperSaid}
 use Rattle.thread_form.specs.declared.taper.TaperStep.{TaperStep}
 use Rattle.thread_form.specs.declared.taper.TaperStep.TheVariants.{Ends, Stops, Cuts}
+use Rattle.thread_form.specs.declared.answers.ThreadWords.TheVariants.{OfRun}
 use Rattle.thread_form.specs.Answers.{fault_cause}
 use Rattle.thread_form.specs.Coded.{coded_lines}
+use Rattle.thread_form.specs.TwoLines.{twice_cause}
 use Rattle.cycle_words.specs.Scenes.{start_of, way_cause, words_of, says_ends, refused, has_motion}
 
 -- the cycle's code, in millionths
@@ -51,7 +53,7 @@ letters_of B = codes "GXZRF"
 -- why the words of a block of a run are refused
 abbrev pub words_cause : System → List Word → Option PlainCause
 words_cause system words =
-    first_cause (unexpected_in (letters_of system) (taper_code system ∷ []) words)
+    first_cause (first_cause (unexpected_in (letters_of system) (taper_code system ∷ []) words) (twice_cause words))
     (first_cause (calculated_in (codes "XUZWRF") words) (if says_ends words then None else Some cause.NoForm))
 
 -- where an axis goes: to its word, or as far from the start, or where it went before
@@ -98,7 +100,7 @@ blocks_step system (Some blocks) = Cuts (coded_lines system blocks)
 
 -- what a pass is in the run: what it can't do, or its blocks
 abbrev pub step_by : System → Option ThreadFault → Option (List PlainBlock) → TaperStep
-step_by system (Some fault) blocks = Stops (fault_cause fault)
+step_by system (Some fault) blocks = Stops (fault_cause OfRun fault)
 step_by system None blocks = blocks_step system blocks
 
 abbrev pub pass_step : System → ThreadCycle → TaperStep

@@ -14,6 +14,7 @@ use Rattle.thread_cycle.specs.Tip.{tip_of_degrees}
 use Rattle.cycle_words.specs.Numbers.{length_said, length_or, count_said, count_or, value_said, place_said, is_said, size_or}
 use Rattle.cycle_words.specs.Causes.{first_cause, calculated_in, no_count_in, missing_of, unexpected_in}
 use Rattle.cycle_words.specs.Motion.{scene_cause}
+use Rattle.line_words.specs.Lines.{twice_of}
 use Rattle.thread_form.specs.Rounding.{rounding_of}
 
 -- G76, in millionths
@@ -77,11 +78,15 @@ ends_cause body = first_cause (missing_of (is_said 88 body || is_said 85 body) 8
 abbrev pub feed_cause : Scene → List Word → Option PlainCause
 feed_cause scene body = if is_said 70 body || is_some scene.feed then None else Some cause.Feed
 
+-- an axis is named twice
+abbrev pub twice_cause : List Word → Option PlainCause
+twice_cause words = first_cause (twice_of 88 85 words) (twice_of 90 87 words)
+
 -- why the second line is refused
 abbrev pub body_cause : Scene → List Word → Option PlainCause
 body_cause scene body =
     first_cause
-    (first_cause (unexpected_in (codes "GXUZWRPQF") (thread_code ∷ []) body)
+    (first_cause (first_cause (unexpected_in (codes "GXUZWRPQF") (thread_code ∷ []) body) (twice_cause body))
     (first_cause (calculated_in (codes "XUZWRPQF") body) (no_count_in (codes "PQ") body)))
     (first_cause (first_cause (ends_cause body) (first_cause (missing_of (is_said 80 body) 80) (missing_of (is_said 81 body) 81)))
     (first_cause (scene_cause scene) (feed_cause scene body)))

@@ -1,6 +1,6 @@
 //! What is answered of a threading cycle: its blocks as lines, or why it is refused.
 ghost use Rattle.std.specs.Prelude.{◌≡◌, IfOk};
-ghost use Rattle.thread_form.specs.Answers.{fault_cause, is_of_head, fault_line, cycle_lines, written, cycle_answer};
+ghost use Rattle.thread_form.specs.Answers.{letter_of_depth, letter_of_taper, letter_of_left, fault_cause, words_of_lines, is_of_head, fault_line, cycle_lines, written, cycle_answer};
 
 use crate::coded::coded_lines;
 use cycle_words::{push_code_before, refused};
@@ -21,18 +21,74 @@ pub(crate) struct CycleLines {
     pub body: u32,
 }
 
+/// The words that say a thread, whose letters its causes name.
+#[derive(Clone, Copy, Debug, PartialEq, Eq)]
+pub(crate) enum ThreadWords {
+    /// G76 in two lines.
+    OfTwoLines,
+    /// G76 in one line.
+    OfOneLine,
+    /// A run of G92 (G78 in system B).
+    OfRun,
+}
+
+impl ThreadWords {
+    /// The letter of the depth: a run has none, and its end alone may be too large.
+    fn letter_of_depth(self) -> u8
+        ensures { result ≡ letter_of_depth self }
+    {
+        match self {
+            ThreadWords::OfTwoLines => b'P',
+            ThreadWords::OfOneLine => b'K',
+            ThreadWords::OfRun => b'X',
+        }
+    }
+
+    /// The letter of the taper.
+    fn letter_of_taper(self) -> u8
+        ensures { result ≡ letter_of_taper self }
+    {
+        match self {
+            ThreadWords::OfTwoLines => b'R',
+            ThreadWords::OfOneLine => b'I',
+            ThreadWords::OfRun => b'R',
+        }
+    }
+
+    /// The letter of what leaves nothing to cut: in one line it is the depth.
+    fn letter_of_left(self) -> u8
+        ensures { result ≡ letter_of_left self }
+    {
+        match self {
+            ThreadWords::OfTwoLines => b'R',
+            ThreadWords::OfOneLine => b'K',
+            ThreadWords::OfRun => b'R',
+        }
+    }
+}
+
 /// What a cause of a cycle is for its words.
-pub(crate) fn fault_cause(fault: ThreadFault) -> PlainCause
-    ensures { result ≡ fault_cause fault }
+pub(crate) fn fault_cause(words: ThreadWords, fault: ThreadFault) -> PlainCause
+    ensures { result ≡ fault_cause words fault }
 {
     match fault {
-        ThreadFault::AllLeft => PlainCause::Range(b'R'),
-        ThreadFault::TooLarge => PlainCause::Range(b'P'),
+        ThreadFault::AllLeft => PlainCause::Range(words.letter_of_left()),
+        ThreadFault::TooLarge => PlainCause::Range(words.letter_of_depth()),
         ThreadFault::NoPass => PlainCause::Setting,
         ThreadFault::NoLead => PlainCause::Range(b'F'),
         ThreadFault::Short => PlainCause::Range(b'Z'),
-        ThreadFault::Steep => PlainCause::Range(b'R'),
+        ThreadFault::Steep => PlainCause::Range(words.letter_of_taper()),
         ThreadFault::BelowCrest => PlainCause::Start,
+    }
+}
+
+/// The words of a G76 with a first line, or without.
+fn words_of_lines(head: Option<u32>) -> ThreadWords
+    ensures { result ≡ words_of_lines head }
+{
+    match head {
+        Some(_) => ThreadWords::OfTwoLines,
+        None => ThreadWords::OfOneLine,
     }
 }
 
@@ -96,7 +152,8 @@ pub(crate) fn cycle_answer(
     ensures { IfOk result (λ answer. answer ≡ cycle_answer lines.now scene.now cycle.now) }
 {
     if let Some(fault) = cycle.fault() {
-        return Ok(refused(fault_line(lines, fault), fault_cause(fault)));
+        let cause = fault_cause(words_of_lines(lines.head), fault);
+        return Ok(refused(fault_line(lines, fault), cause));
     }
     let Some(blocks) = cycle.blocks(alloc)? else {
         return Ok(refused(lines.body, PlainCause::Passes));

@@ -9,7 +9,7 @@ ghost use Rattle.cycle_words.specs.Numbers.{count_or};
 ghost use Rattle.thread_form.specs.TwoLines.{thread_code};
 
 use crate::rounding::rounding_of;
-use crate::two_lines::{THREAD_CODE, ends_cause, feed_cause, lead_of};
+use crate::two_lines::{THREAD_CODE, ends_cause, feed_cause, lead_of, twice_cause};
 use cycle_words::{
     calculated_in, count_or, first_cause, is_said, length_or, missing_of, no_count_in, place_said,
     scene_cause, unexpected_in,
@@ -52,10 +52,8 @@ fn read_cause(words: &[Word]) -> Option<PlainCause>
     ensures { result ≡ read_cause words.now }
 {
     let counts = no_count_in(words, b"AP");
-    first_cause(
-        strange_cause(words),
-        first_cause(calculated_cause(words), counts),
-    )
+    let strange = first_cause(strange_cause(words), twice_cause(words));
+    first_cause(strange, first_cause(calculated_cause(words), counts))
 }
 
 /// That a letter or a code is strange to the line.

@@ -6,8 +6,9 @@ ghost use Rattle.thread_cycle.specs.Near.{IsWritten};
 ghost use Rattle.cycle_words.specs.Numbers.{length_said, value_said};
 ghost use Rattle.thread_form.specs.Taper.{taper_code, is_taper, begins_taper, letters_of, words_cause, axis_next, lead_next, said_after, pass_of, pass_step, lead_step, said_step, block_step, run_from, said_before, taper_answer};
 
-use crate::answers::fault_cause;
+use crate::answers::{ThreadWords, fault_cause};
 use crate::coded::coded_lines;
+use crate::two_lines::twice_cause;
 use code_tables::System;
 use cycle_words::{
     calculated_in, first_cause, has_motion, is_said, length_or, length_said, refused, says_ends,
@@ -81,7 +82,8 @@ pub fn letters_of(system: System) -> &'static [u8]
 fn words_cause(words: &[Word], system: System) -> Option<PlainCause>
     ensures { result ≡ words_cause system words.now }
 {
-    let strange = unexpected_in(words, letters_of(system), &[taper_code(system)]);
+    let letters = unexpected_in(words, letters_of(system), &[taper_code(system)]);
+    let strange = first_cause(letters, twice_cause(words));
     let calculated = calculated_in(words, b"XUZWRF");
     let ends = if says_ends(words) {
         None
@@ -161,7 +163,7 @@ fn pass_step(alloc: Global, system: System, cycle: &ThreadCycle) -> Result<Taper
     ensures { IfOk result (λ step. step ≡ pass_step system cycle.now) }
 {
     if let Some(fault) = cycle.pass_fault() {
-        return Ok(TaperStep::Stops(fault_cause(fault)));
+        return Ok(TaperStep::Stops(fault_cause(ThreadWords::OfRun, fault)));
     }
     let Some(blocks) = cycle.blocks(alloc)? else {
         return Ok(TaperStep::Stops(PlainCause::Passes));

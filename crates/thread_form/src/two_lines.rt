@@ -1,13 +1,14 @@
 //! G76 in two lines: `G76 P Q R` with the choices of the passes, and `G76 X Z R P Q F`.
 ghost use Rattle.std.specs.Prelude.{◌≡◌, unwrap_or, pos};
 ghost use Rattle.thread_cycle.specs.Near.{IsWritten};
-ghost use Rattle.thread_form.specs.TwoLines.{finishing_of, pull_out_of, angle_of, left_of, range_cause, head_cause, ends_cause, feed_cause, body_cause, lead_of, cycle_of};
+ghost use Rattle.thread_form.specs.TwoLines.{finishing_of, pull_out_of, angle_of, left_of, range_cause, head_cause, twice_cause, ends_cause, feed_cause, body_cause, lead_of, cycle_of};
 
 use crate::rounding::rounding_of;
 use cycle_words::{
     calculated_in, count_or, count_said, first_cause, is_said, length_or, length_said, missing_of,
     no_count_in, place_said, scene_cause, unexpected_in, value_said,
 };
+use line_words::twice_of;
 use nc_number::{Point, Value};
 use nc_text::Word;
 use plain_form::{FormSettings, PlainCause, Scene};
@@ -108,11 +109,19 @@ pub(crate) fn feed_cause(body: &[Word], scene: &Scene) -> Option<PlainCause>
     }
 }
 
+/// That an axis is named twice: X beside U, or Z beside W.
+pub(crate) fn twice_cause(words: &[Word]) -> Option<PlainCause>
+    ensures { result ≡ twice_cause words.now }
+{
+    first_cause(twice_of(words, b'X', b'U'), twice_of(words, b'Z', b'W'))
+}
+
 /// Why the second line is refused.
 pub(crate) fn body_cause(body: &[Word], scene: &Scene) -> Option<PlainCause>
     ensures { result ≡ body_cause scene.now body.now }
 {
-    let strange = unexpected_in(body, b"GXUZWRPQF", &[THREAD_CODE]);
+    let letters = unexpected_in(body, b"GXUZWRPQF", &[THREAD_CODE]);
+    let strange = first_cause(letters, twice_cause(body));
     let calculated = calculated_in(body, b"XUZWRPQF");
     let counts = no_count_in(body, b"PQ");
     let depth = missing_of(is_said(body, b'P'), b'P');
