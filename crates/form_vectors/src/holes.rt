@@ -61,6 +61,7 @@ fn holes_go_on_to_g80(rt: HostRuntime) -> Result<(), Fail> {
         "G83 X20. Z-6. R-3. F0.1|X10.|W-9.|G00 X60.=[ G00X20.000 G00Z2.000 G01Z-6.000F0.1 G00Z5.000][ G00X10.000 G00Z2.000 G01Z-6.000F0.1 G00Z5.000][ G00Z2.000 G01Z-7.000F0.1 G00Z5.000]",
         "G84 X0 Z-6. R-3. F1.|G80=[ G00X0.000 G00Z2.000 G01Z-6.000F1 M4 G01Z2.000F1 G00Z5.000 M3]",
         "G85 X0 Z-6. R-3. P100 F0.1|G80=[ G00X0.000 G00Z2.000 G01Z-6.000F0.1 G04X0.100 G01Z2.000F0.1 G00Z5.000]",
+        "G83 X20. Z-6. R-3. Q6000 P200 F0.1|G84 X10. F1.|G80=[ G00X20.000 G00Z2.000 G01Z-4.000F0.1 G00Z2.000 G00Z-3.500 G01Z-6.000F0.1 G04X0.200 G00Z5.000][ G00X10.000 G00Z2.000 G01Z-6.000F1 G04X0.200 M4 G01Z2.000F1 G00Z5.000 M3]",
         "G87 Z-3. X30. R-4. Q5000 F0.1|G80=[ G00Z-3.000 G00X42.000 G01X32.000F0.1 G00X42.000 G00X33.000 G01X30.000F0.1 G00X50.000]",
         "G83 X0 Z-6. K0 R-3. F0.1|X2. K2|G80=[ G00X0.000][ G00X2.000 G00Z2.000 G01Z-6.000F0.1 G00Z5.000 G00Z2.000 G01Z-6.000F0.1 G00Z5.000]",
     ] {
@@ -77,6 +78,21 @@ fn system_b_names_the_level(rt: HostRuntime) -> Result<(), Fail> {
     let wanted =
         "[ G00X20.000 G00Z2.000 G01Z-6.000F0.1 G00Z2.000][ G00X10.000 G00Z2.000 G01Z-6.000F0.1 G00Z5.000]";
     let lines = "G99 G83 X20. Z-6. R-3. F0.1|G98 X10.|G80";
+    assert!(rt; is_answer(rt.alloc(), lines, &scene, wanted)?);
+    Ok(())
+}
+
+/// Another code of holes counts the point R from the level before the run, not from the point R at
+/// which the tool stands.
+#[test]
+fn another_code_goes_on_with_the_run(rt: HostRuntime) -> Result<(), Fail> {
+    let scene = standing(50_000, 5_000, System::B);
+    let wanted = "[ G00X20.000 G00Z2.000 G01Z-6.000F0.1 G00Z2.000][ G00X10.000 G00Z2.000 G01Z-7.000F1 M4 G01Z2.000F1 M3][ G00X5.000 G00Z2.000 G01Z-7.000F1 G01Z2.000F1 G00Z5.000]";
+    let lines = "G99 G83 X20. Z-6. R-3. F0.1|G84 X10. Z-7. F1.|G98 G85 X5.|G80";
+    assert!(rt; is_answer(rt.alloc(), lines, &scene, wanted)?);
+    let scene = standing(50_000, 5_000, System::A);
+    let wanted = "[ G00X20.000 G00Z2.000 G01Z-6.000F0.1 G00Z5.000]";
+    let lines = "G83 X20. Z-6. R-3. F0.1|G87 X10. Z-7. F1.|G80";
     assert!(rt; is_answer(rt.alloc(), lines, &scene, wanted)?);
     Ok(())
 }
