@@ -2,7 +2,6 @@
 -- src/pairs.rt).
 use Rattle.std.proofs.Common.{◌≡◌, ◌++◌, false, sym, subst, ap, ◌∙◌, IfOk}
 use Rattle.std.proofs.lemmas.List.{take-append-drop}
-use Rattle.nc_number.proofs.Bools.{not_true}
 use Rattle.zone_moves.specs.Pairs.{any_met, first_pair}
 use Rattle.zone_moves.proofs.Pruned.{none_met, front_pair, back_pair}
 use Rattle.zone_moves.proofs.pairs.+first_pair.Goals as goal
@@ -11,7 +10,7 @@ pub returns-then-not-branch : goal.returns-then-not-branch
 returns-then-not-branch t c =
     let none : any_met c.args.gap.now c.args.left.now c.in_ok-near.near.items ≡ false
     = ap (any_met c.args.gap.now c.args.left.now) (sym c.as_slice.ensures.value)
-    ∙ (sym c.in_ok-is_any_met.ensures ∙ not_true _ c.if-not-branch.true) in
+    ∙ (sym c.in_ok-is_any_met.ensures ∙ c.if-not-branch.true) in
     sym (none_met c.args.gap.now c.args.left.now c.in_ok-near.near.items none) ∙ c.in_ok-near.ensures.same
 
 pub returns-in-Some : goal.returns-in-Some
