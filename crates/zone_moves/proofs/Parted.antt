@@ -1,13 +1,13 @@
 -- A stretch more in one of two parts, and what the parts say of the whole list. `parted_at`
 -- (src/parts.rt) and `is_any_met` (src/contact.rt) rest on it.
-use Rattle.std.proofs.Common.{◌≡◌, ℕ, ◌+◌, ◌<◌, ◌≤◌, ◌==◌, length, take, get_or, take_all, Bool, true, false, not, ◌&&◌, ◌||◌, List, [], ◌∷◌, ◌++◌, refl, sym, subst, ap, ◌∙◌, arith}
+use Rattle.std.proofs.Common.{◌≡◌, ℕ, ◌+◌, ◌<◌, ◌≤◌, length, take, get_or, take_all, Bool, true, false, ◌||◌, List, [], ◌∷◌, ◌++◌, refl, sym, subst, ap, ◌∙◌, arith}
 use Rattle.std.specs.List.{list_any}
 use Rattle.std.proofs.lemmas.List.Folds.{list_any-append}
 use Rattle.std.proofs.lemmas.List.{length-append, take_more}
 use Rattle.nc_number.specs.declared.point.Point.{Point}
 use Rattle.zone_moves.specs.declared.stretch.Stretch.{Stretch}
 use Rattle.zone_moves.specs.Pairs.{is_met, any_met}
-use Rattle.zone_moves.specs.Parts.{PartsView, no_parts, parts_with, are_both, ArePartsOf}
+use Rattle.zone_moves.specs.Parts.{PartsView, no_parts, parts_with, ArePartsOf}
 
 -- no parts have no stretches
 pub nothing_parted : ArePartsOf no_parts []
@@ -37,23 +37,23 @@ parts_more : (parts : PartsView) (is_before : Bool) (s : Stretch) (so_far : List
     → ArePartsOf (parts_with parts is_before s) (so_far ++ s ∷ [])
 parts_more parts true s so_far are = record {
   any = λ q. ap (λ x. x || list_any q parts.behind) (list_any-append q parts.before (s ∷ []))
-    ∙ (first_told (list_any q parts.before) (list_any q parts.behind) (q s) (list_any q so_far) (are.any q)
-    ∙ sym (list_any-append q so_far (s ∷ [])));
+      ∙ (first_told (list_any q parts.before) (list_any q parts.behind) (q s) (list_any q so_far) (are.any q)
+      ∙ sym (list_any-append q so_far (s ∷ [])));
   count =
-    let before = length-append parts.before (s ∷ []) in
-    let all = length-append so_far (s ∷ []) in
-    let count = are.count in
-    omega (arith, before, all, count);
+      let before = length-append parts.before (s ∷ []) in
+      let all = length-append so_far (s ∷ []) in
+      let count = are.count in
+      omega (arith, before, all, count);
 }
 parts_more parts false s so_far are = record {
   any = λ q. ap (λ x. list_any q parts.before || x) (list_any-append q parts.behind (s ∷ []))
-    ∙ (second_told (list_any q parts.before) (list_any q parts.behind) (q s) (list_any q so_far) (are.any q)
-    ∙ sym (list_any-append q so_far (s ∷ [])));
+      ∙ (second_told (list_any q parts.before) (list_any q parts.behind) (q s) (list_any q so_far) (are.any q)
+      ∙ sym (list_any-append q so_far (s ∷ [])));
   count =
-    let behind = length-append parts.behind (s ∷ []) in
-    let all = length-append so_far (s ∷ []) in
-    let count = are.count in
-    omega (arith, behind, all, count);
+      let behind = length-append parts.behind (s ∷ []) in
+      let all = length-append so_far (s ∷ []) in
+      let count = are.count in
+      omega (arith, behind, all, count);
 }
 
 -- parts of the stretches so far, with the next one, are parts of these and that one
@@ -79,10 +79,3 @@ pub other_met : (gap : Point) (parts : PartsView) (ls others : List Stretch) →
     → any_met gap parts.behind others ≡ any_met gap ls others
 other_met gap parts ls others are is =
     sym (ap (λ x. x || any_met gap parts.behind others) is) ∙ are.any (is_met gap others)
-
--- if both parts have some, each is shorter than the whole list
-pub both_shorter : (parts : PartsView) (ls : List Stretch) → ArePartsOf parts ls → are_both parts ≡ true
-    → (length parts.before < length ls) × (length parts.behind < length ls)
-both_shorter parts ls are is =
-    let count = are.count in
-    (grind (arith, count, is), grind (arith, count, is))

@@ -2,7 +2,6 @@
 //! where they lie, again and again, and what keeps off the hull of a part is left out there. So few
 //! pairs are looked at, whatever the order of the moves.
 ghost use Rattle.std.specs.Prelude.{◌≡◌, All, IfOk};
-ghost use Rattle.std.specs.Option.{is_some};
 ghost use Rattle.nc_number.specs.Position.{IsPosition};
 ghost use Rattle.zone_moves.specs.Pairs.{first_met, is_met, any_met};
 ghost use Rattle.zone_moves.specs.Stretches.{IsPlaced};
