@@ -10,7 +10,10 @@ import sys
 ROOT, CALLED, WORK = sys.argv[1:]
 HAS_LAUNCHER = os.path.samefile(CALLED, os.path.join(ROOT, "twin_lathe"))
 SECONDS = 300
-DOCUMENTS = ("README.md", "docs/TUTORIAL.md", "docs/COMMANDS.md")
+DOCUMENTS = ("README.md", "docs/TUTORIAL.md", "docs/COMMANDS.md", "docs/ZONES.md")
+
+# Documents whose calls stand in a copy of examples/, with the program on the PATH.
+IN_EXAMPLES = ("docs/COMMANDS.md", "docs/ZONES.md")
 
 # Lines that are not run here, and why.
 NOT_RUN = {
@@ -122,9 +125,9 @@ def run_session(name, calls, folder):
     if name == "docs/TUTORIAL.md":
         shutil.rmtree(os.path.join(folder, "job"))
     calls = [call for call in calls if call.text not in NOT_RUN and (HAS_LAUNCHER or not OF_LAUNCHER.search(call.text))]
-    start = os.path.join(folder, "job") if name == "docs/COMMANDS.md" else folder
+    start = os.path.join(folder, "job") if name in IN_EXAMPLES else folder
     lines = [f"cd '{start}' || exit 1"]
-    if name == "docs/COMMANDS.md":
+    if name in IN_EXAMPLES:
         lines.append(f"PATH='{folder}':$PATH")
     for k, call in enumerate(calls):
         at = os.path.join(folder, f".row{k}")

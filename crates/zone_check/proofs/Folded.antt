@@ -1,5 +1,5 @@
 -- The zones that are kept while records are done again are those of the segments of the history.
--- `boxes` (src/meetings.rt) rests on it; TurnsLead.antt takes the moves of a turn.
+-- `boxes` (src/meetings.rt) rests on it.
 use Rattle.std.proofs.Common.{◌≡◌, ℕ, Bool, true, false, List, [], ◌∷◌, ◌++◌, map, refl, ap, sym, ◌∙◌, append_assoc, append-nil, if◌then◌else◌}
 use Rattle.std.proofs.lemmas.List.{map-append}
 use Rattle.nc_number.specs.declared.both.Both.{Both}
@@ -7,46 +7,20 @@ use Rattle.nc_number.specs.declared.path.Path.{Path}
 use Rattle.nc_number.specs.declared.path.Path.TheVariants.{One, Two}
 use Rattle.nc_moves.specs.declared.motion.Move.{Move}
 use Rattle.nc_outside.specs.declared.lined_move.LinedMove.{LinedMove}
-use Rattle.nc_outside.specs.Lined.{lined_move}
 use Rattle.run_records.specs.Entries.{Entry, is_meeting}
 use Rattle.two_path.specs.declared.turn.Turn.{Turn}
-use Rattle.two_path.specs.declared.turn.Turn.TheVariants.{Read, Did, Arrived, Met, Ended, Waiting, Finished, Alarm, Halted, Edited}
 use Rattle.two_path.specs.Machine.{MachineView}
 use Rattle.two_path.specs.Turns.{Tapes}
 use Rattle.two_path.specs.Histories.{behind_entry, fold}
 use Rattle.two_path.specs.Again.{turn_of_entry}
-use Rattle.two_path.specs.Made.{moves_of_turn, moves_made_in, moves_made_by, moves_in, turns_from, moves_of}
+use Rattle.two_path.specs.Made.{moves_made_by, moves_in, turns_from, moves_of}
 use Rattle.two_path.proofs.Replays.{turn_at, fold_more}
 use Rattle.zone_area.specs.Area.{SweptView, swept_at, swept_with, swept_along}
 use Rattle.zone_cell.specs.declared.cell.Zone.{Zone}
 use Rattle.zone_cell.specs.Zones.{ZonesView}
-use Rattle.zone_check.specs.Segments.{Segment, path_moves, segment_of, segments_from, zone_of, zones_of_history}
-use Rattle.zone_check.specs.Kept.{KeptView, standing_at, moves_by, standing_with, zones_from}
-
--- the moves of a block without its line
-what_lined : (line : ℕ) (moves : List Move) → map (λ (made : LinedMove). made.what) (map (lined_move line) moves) ≡ moves
-what_lined line [] = refl
-what_lined line (move ∷ moves) = ap (λ rest. move ∷ rest) (what_lined line moves)
-
--- the moves of a turn, without their lines, are those that it answers
-what_made : (turn : Turn) → map (λ (made : LinedMove). made.what) (moves_made_in turn) ≡ moves_of_turn turn
-what_made (Did moves) = what_lined moves.line moves.list
-what_made (Ended moves) = what_lined moves.line moves.list
-what_made (Read variable stamp) = refl
-what_made (Arrived code) = refl
-what_made (Met code) = refl
-what_made (Waiting code) = refl
-what_made Finished = refl
-what_made (Alarm alarm) = refl
-what_made (Halted alarm) = refl
-what_made Edited = refl
-
--- the moves of `path` in a turn of the path `of`, without their lines, are `moves_by`
-pub what_by : (path of : Path) (turn : Turn) → map (λ (made : LinedMove). made.what) (moves_made_by path (record { path = of; turn = turn })) ≡ moves_by path of turn
-what_by One One turn = what_made turn
-what_by One Two turn = refl
-what_by Two One turn = refl
-what_by Two Two turn = what_made turn
+use Rattle.zone_check.specs.Segments.{Segment, unlined, path_moves, segment_of, segments_from, zone_of, zones_of_history}
+use Rattle.zone_check.proofs.Unlined.{unlined_turn}
+use Rattle.zone_check.specs.Kept.{KeptView, standing_at, standing_with, zones_from}
 
 -- one record more adds the moves of its turn, with their lines, to its path
 pub moves_more : (tapes : Tapes) (m : MachineView) (path : Path) (front : List Entry) (e : Entry)
@@ -60,11 +34,10 @@ moves_more tapes m path (x ∷ front) e =
 -- one record more adds the moves of its turn, without their lines, to its path
 path_more : (tapes : Tapes) (m : MachineView) (path : Path) (front : List Entry) (e : Entry)
     → path_moves tapes m path (front ++ e ∷ [])
-    ≡ path_moves tapes m path front ++ moves_by path e.path (turn_of_entry tapes e (fold tapes m front))
+    ≡ path_moves tapes m path front ++ unlined (moves_made_by path (turn_at tapes (fold tapes m front) e))
 path_more tapes m path front e =
-    ap (map (λ (made : LinedMove). made.what)) (moves_more tapes m path front e)
+    ap unlined (moves_more tapes m path front e)
     ∙ map-append (λ (made : LinedMove). made.what) (moves_of tapes m path front) (moves_made_by path (turn_at tapes (fold tapes m front) e))
-    ∙ ap (λ (ms : List Move). path_moves tapes m path front ++ ms) (what_by path e.path (turn_of_entry tapes e (fold tapes m front)))
 
 -- sweeping moves and then others sweeps all of them
 swept_on : (s : SweptView) (front back : List Move) → swept_along s (front ++ back) ≡ swept_along (swept_along s front) back
@@ -75,6 +48,19 @@ swept_on s (move ∷ front) back = swept_on (swept_with s move) front back
 abbrev standing_of : Segment → Both SweptView
 standing_of s = record { one = swept_along (swept_at s.left_at) s.left; two = swept_along (swept_at s.right_at) s.right }
 
+-- what both paths have swept, with the moves that a turn adds to each
+swept_by : (s : Both SweptView) (of : Path) (turn : Turn)
+    → ◌≡◌ {A = Both SweptView} (record {
+      one = swept_along s.one (unlined (moves_made_by One (record { path = of; turn = turn })));
+      two = swept_along s.two (unlined (moves_made_by Two (record { path = of; turn = turn })));
+    }) (standing_with s of turn)
+swept_by s One turn =
+    let with_moves : List Move → Both SweptView = λ moves. record { one = swept_along s.one moves; two = s.two } in
+    ap with_moves (unlined_turn turn)
+swept_by s Two turn =
+    let with_moves : List Move → Both SweptView = λ moves. record { one = s.one; two = swept_along s.two moves } in
+    ap with_moves (unlined_turn turn)
+
 -- one record more, that is no meeting, adds the moves of its turn to what the segment swept
 standing_more : (tapes : Tapes) (m : MachineView) (front : List Entry) (e : Entry)
     → standing_of (segment_of tapes m (front ++ e ∷ []))
@@ -82,14 +68,15 @@ standing_more : (tapes : Tapes) (m : MachineView) (front : List Entry) (e : Entr
 standing_more tapes m front e =
     let left = swept_at m.paths.one.path.position in
     let right = swept_at m.paths.two.path.position in
-    let turn = turn_of_entry tapes e (fold tapes m front) in
+    let more = turn_at tapes (fold tapes m front) e in
     let at : SweptView → SweptView → Both SweptView = λ a b. record { one = a; two = b } in
-    let one : swept_along left (path_moves tapes m One (front ++ e ∷ [])) ≡ swept_along (swept_along left (path_moves tapes m One front)) (moves_by One e.path turn)
-    = ap (swept_along left) (path_more tapes m One front e) ∙ swept_on left (path_moves tapes m One front) (moves_by One e.path turn) in
-    let two : swept_along right (path_moves tapes m Two (front ++ e ∷ [])) ≡ swept_along (swept_along right (path_moves tapes m Two front)) (moves_by Two e.path turn)
-    = ap (swept_along right) (path_more tapes m Two front e) ∙ swept_on right (path_moves tapes m Two front) (moves_by Two e.path turn) in
+    let one : swept_along left (path_moves tapes m One (front ++ e ∷ [])) ≡ swept_along (swept_along left (path_moves tapes m One front)) (unlined (moves_made_by One more))
+    = ap (swept_along left) (path_more tapes m One front e) ∙ swept_on left (path_moves tapes m One front) (unlined (moves_made_by One more)) in
+    let two : swept_along right (path_moves tapes m Two (front ++ e ∷ [])) ≡ swept_along (swept_along right (path_moves tapes m Two front)) (unlined (moves_made_by Two more))
+    = ap (swept_along right) (path_more tapes m Two front e) ∙ swept_on right (path_moves tapes m Two front) (unlined (moves_made_by Two more)) in
     ap (λ a. at a (swept_along right (path_moves tapes m Two (front ++ e ∷ [])))) one
-    ∙ ap (λ b. at (swept_along (swept_along left (path_moves tapes m One front)) (moves_by One e.path turn)) b) two
+    ∙ (ap (λ b. at (swept_along (swept_along left (path_moves tapes m One front)) (unlined (moves_made_by One more))) b) two
+    ∙ swept_by (standing_of (segment_of tapes m front)) e.path (turn_of_entry tapes e (fold tapes m front)))
 
 -- two functions that agree on both values of a choice agree on the choice
 either_way : (test : Bool) (f : KeptView → List Zone) (g : List Segment → List Zone) (one two : KeptView) (some others : List Segment)

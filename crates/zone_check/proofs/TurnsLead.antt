@@ -21,12 +21,11 @@ use Rattle.two_path.specs.Turns.{TurnResult, Tapes, blocks_of, tapes_of, result_
 use Rattle.two_path.specs.declared.turn.Turn.TheVariants as turn
 use Rattle.two_path.specs.Histories.{with_reads, behind_step, behind_own, behind_entry, fold}
 use Rattle.two_path.specs.Again.{turn_by, turn_of_entry}
-use Rattle.two_path.specs.Made.{moves_of_turn, moves_made_by, moves_in, turns_from, moves_of}
+use Rattle.two_path.specs.Made.{moves_of_turn, moves_made_in, moves_made_by, moves_in, turns_from, moves_of}
 use Rattle.two_path.proofs.NoCrossing.{either}
 use Rattle.two_path.proofs.Replays.{turn_at}
-use Rattle.zone_check.specs.Segments.{path_moves}
-use Rattle.zone_check.specs.Kept.{moves_by}
-use Rattle.zone_check.proofs.Folded.{what_by}
+use Rattle.zone_check.specs.Segments.{unlined, path_moves}
+use Rattle.zone_check.proofs.Unlined.{unlined_turn}
 use Rattle.zone_check.proofs.MovesLead.{LeadsOn, block_leads}
 
 -- The turn that came to this leaves the first path at the end of its moves, and the other where it
@@ -65,19 +64,27 @@ own_leads flow path m =
     (effect_leads path ((blocks_of flow).line m.paths.one.path.place) m ((blocks_of flow).effect m.paths.one.path m.paths.one.values)
     (block_leads flow m.paths.one.path m.paths.one.values))
 
+-- such a turn leaves the first path at the end of its moves with their lines
+lined_leads : (m : MachineView) (r : TurnResult) → LeadsBy m r
+    → r.machine.paths.one.path.position ≡ last_end m.paths.one.path.position (unlined (moves_made_in r.turn))
+lined_leads m r is = is.0 ∙ ap (last_end m.paths.one.path.position) (sym (unlined_turn r.turn))
+
 -- behind a step of this path, with these stamps, each path stands at the end of its moves
 step_leads : (left right : Flow) (of path : Path) (stamps : List ℕ) (m : MachineView)
     → position_of path (own_first of (behind_step (of_path (tapes_of left right) of) of stamps (own_first of m)))
-    ≡ last_end (position_of path m) (moves_by path of (own_turn (of_path (tapes_of left right) of) of (with_reads (of_path (tapes_of left right) of) stamps (own_first of m))).turn)
-step_leads left right One One stamps m = (own_leads left One (with_reads (blocks_of left) stamps m)).0
+    ≡ last_end (position_of path m) (unlined (moves_made_by path (record { path = of; turn = (own_turn (of_path (tapes_of left right) of) of (with_reads (of_path (tapes_of left right) of) stamps (own_first of m))).turn })))
+step_leads left right One One stamps m =
+    lined_leads (with_reads (blocks_of left) stamps m) (own_turn (blocks_of left) One (with_reads (blocks_of left) stamps m)) (own_leads left One (with_reads (blocks_of left) stamps m))
 step_leads left right One Two stamps m = (own_leads left One (with_reads (blocks_of left) stamps m)).1
 step_leads left right Two One stamps m = (own_leads right Two (with_reads (blocks_of right) stamps (own_first Two m))).1
-step_leads left right Two Two stamps m = (own_leads right Two (with_reads (blocks_of right) stamps (own_first Two m))).0
+step_leads left right Two Two stamps m =
+    let first = with_reads (blocks_of right) stamps (own_first Two m) in
+    lined_leads first (own_turn (blocks_of right) Two first) (own_leads right Two first)
 
 -- behind a record, a step or an edit, each path stands at the end of its moves
 entry_leads : (left right : Flow) (of path : Path) (edit : Option Edit) (stamps : List ℕ) (m : MachineView)
     → position_of path (own_first of (behind_own (of_path (tapes_of left right) of) of edit stamps (own_first of m)))
-    ≡ last_end (position_of path m) (moves_by path of (turn_by (of_path (tapes_of left right) of) of edit stamps (own_first of m)))
+    ≡ last_end (position_of path m) (unlined (moves_made_by path (record { path = of; turn = turn_by (of_path (tapes_of left right) of) of edit stamps (own_first of m) })))
 entry_leads left right of path None stamps m = step_leads left right of path stamps m
 entry_leads left right One One (Some edit) stamps m = refl
 entry_leads left right One Two (Some edit) stamps m = refl
@@ -91,11 +98,10 @@ last_end_on at (move ∷ front) back = last_end_on (unwrap_or (end_of move) at) 
 
 -- the moves of a path in records are those of the first record, and then those of the others
 path_first : (tapes : Tapes) (m : MachineView) (path : Path) (e : Entry) (entries : List Entry)
-    → path_moves tapes m path (e ∷ entries) ≡ moves_by path e.path (turn_of_entry tapes e m) ++ path_moves tapes (behind_entry tapes e m) path entries
+    → path_moves tapes m path (e ∷ entries) ≡ unlined (moves_made_by path (turn_at tapes m e)) ++ path_moves tapes (behind_entry tapes e m) path entries
 unfolding moves_in turns_from
 path_first tapes m path e entries =
     map-append (λ (made : LinedMove). made.what) (moves_made_by path (turn_at tapes m e)) (moves_of tapes (behind_entry tapes e m) path entries)
-    ∙ ap (λ (ms : List Move). ms ++ path_moves tapes (behind_entry tapes e m) path entries) (what_by path e.path (turn_of_entry tapes e m))
 
 -- behind any records a path stands where its moves led it
 pub positions_lead : (left right : Flow) (m : MachineView) (path : Path) (entries : List Entry)
@@ -106,7 +112,7 @@ positions_lead left right m path [] = refl
 positions_lead left right m path (e ∷ entries) =
     let tapes = tapes_of left right in
     let next = behind_entry tapes e m in
-    let moves = moves_by path e.path (turn_of_entry tapes e m) in
+    let moves = unlined (moves_made_by path (turn_at tapes m e)) in
     positions_lead left right next path entries
     ∙ ap (λ (at : Point). last_end at (path_moves tapes next path entries)) (entry_leads left right e.path path (edit_of e.kind) e.stamps m)
     ∙ sym (last_end_on (position_of path m) moves (path_moves tapes next path entries))

@@ -3,11 +3,9 @@
 -- For this crate alone: src/standing.rt and src/meetings.rt.
 use Rattle.std.specs.Prelude.{List, [], ◌∷◌, ◌++◌, if◌then◌else◌}
 use Rattle.nc_number.specs.Both.{both_of}
-use Rattle.nc_number.specs.Path.{is_same}
 use Rattle.nc_number.specs.declared.both.Both.{Both}
 use Rattle.nc_number.specs.declared.path.Path.{Path}
 use Rattle.nc_number.specs.declared.path.Path.TheVariants.{One, Two}
-use Rattle.nc_moves.specs.declared.motion.Move.{Move}
 use Rattle.run_records.specs.Entries.{Entry, is_meeting}
 use Rattle.two_path.specs.declared.turn.Turn.{Turn}
 use Rattle.two_path.specs.Machine.{Part, MachineView}
@@ -24,17 +22,11 @@ use Rattle.zone_cell.specs.Zones.{ZonesView, zone_of_areas}
 abbrev pub standing_at : MachineView → Both SweptView
 standing_at m = both_of (λ (part : Part). swept_at part.path.position) m.paths
 
--- the moves of `path` in a turn of the path `of`: those of the turn if it is the same path, and
--- else none
-abbrev pub moves_by : Path → Path → Turn → List Move
-moves_by path of turn = if is_same path of then moves_of_turn turn else []
-
--- what both paths have swept, with a turn of this path more
+-- what both paths have swept, with a turn of this path more: it adds its moves, and the other path
+-- none
 abbrev pub standing_with : Both SweptView → Path → Turn → Both SweptView
-standing_with s of turn = record {
-  one = swept_along s.one (moves_by One of turn);
-  two = swept_along s.two (moves_by Two of turn);
-}
+standing_with s One turn = record { one = swept_along s.one (moves_of_turn turn); two = s.two }
+standing_with s Two turn = record { one = s.one; two = swept_along s.two (moves_of_turn turn) }
 
 -- the zone of the segment that goes on
 abbrev pub standing_zone : ZonesView → Both SweptView → Zone

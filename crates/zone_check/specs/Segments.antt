@@ -26,9 +26,13 @@ pub record Segment : Type 0 where
   -- the moves of path 2 in it
   pub right : List Move
 
+-- moves without their lines
+abbrev pub unlined : List LinedMove → List Move
+unlined moves = map (λ (made : LinedMove). made.what) moves
+
 -- the moves of a path's records, in order
 abbrev pub path_moves : Tapes → MachineView → Path → List Entry → List Move
-path_moves tapes m path entries = map (λ (made : LinedMove). made.what) (moves_of tapes m path entries)
+path_moves tapes m path entries = unlined (moves_of tapes m path entries)
 
 -- the segment that begins at the positions of this machine, and has these records
 abbrev pub segment_of : Tapes → MachineView → List Entry → Segment

@@ -1,8 +1,9 @@
 -- A list of stretches meets those of another list that its hull meets, and no others; and a list
 -- meets first what its front does. `first_pair` (src/pairs.rt) rests on it.
-use Rattle.std.proofs.Common.{◌≡◌, ℕ, ◌+◌, ◌<◌, length, drop, get_or, append_assoc, Bool, true, false, List, [], ◌∷◌, ◌++◌, Option, Some, None, ℤ, ◌≤ℤ◌, refl, ap, sym, ◌∙◌, arith, inl, inr, if◌then◌else◌}
+use Rattle.std.proofs.Common.{◌≡◌, ℕ, ◌+◌, ◌<◌, length, drop, get_or, append_assoc, Bool, true, false, List, [], ◌∷◌, ◌++◌, Option, Some, None, ℤ, ◌≤ℤ◌, ◌||◌, refl, ap, sym, ◌∙◌, arith, inl, inr, if◌then◌else◌}
 use Rattle.std.proofs.lemmas.Int.{ints}
 use Rattle.std.specs.List.{filter, All}
+use Rattle.std.specs.Option.{is_some}
 use Rattle.std.proofs.lemmas.List.{drop_more}
 use Rattle.std.specs.Int.{int_min, int_max}
 use Rattle.std.proofs.lemmas.List.Elements.{All-head, All-tail, All-cons}
@@ -12,7 +13,7 @@ use Rattle.nc_number.specs.declared.point.Point.{Point}
 use Rattle.zone_area.specs.declared.area.Area.{Area}
 use Rattle.zone_area.specs.Area.{hull_of, is_beyond, lie_apart, is_clear}
 use Rattle.zone_moves.specs.declared.stretch.Stretch.{Stretch}
-use Rattle.zone_moves.specs.Pairs.{meets, first_met, pair_or, first_pair, hull_along, near_one}
+use Rattle.zone_moves.specs.Pairs.{meets, first_met, any_met, pair_or, first_pair, hull_along, near_one}
 
 -- an area lies within a window
 pub record Covers (window area : Area) : Type 0 where
@@ -136,15 +137,33 @@ pub hull_pruned : (gap : Point) (one : Stretch) (rest others : List Stretch)
     → first_pair gap (one ∷ rest) (filter (λ (s : Stretch). meets gap (hull_along one.area rest) s.area) others) ≡ first_pair gap (one ∷ rest) others
 hull_pruned gap one rest others = pruned gap (hull_along one.area rest) (one ∷ rest) others (along_first one.area rest, along_rest one.area rest)
 
+-- there is a first pair exactly if a stretch meets one of the others
+pub some_met : (gap : Point) (ls others : List Stretch) → is_some (first_pair gap ls others) ≡ any_met gap ls others
+some_met gap [] others = refl
+some_met gap (l ∷ ls) others = go (first_met gap l others) (some_met gap ls others)
+  where
+    go : (met : Option Stretch) → is_some (first_pair gap ls others) ≡ any_met gap ls others
+        → is_some (pair_or l met (first_pair gap ls others)) ≡ (is_some met || any_met gap ls others)
+    go (Some two) rest = refl
+    go None rest = rest
+
+-- if two lists of others give the same first pair, a stretch meets one of either or of none
+pub met_alike : (gap : Point) (ls some others : List Stretch) → first_pair gap ls some ≡ first_pair gap ls others
+    → any_met gap ls some ≡ any_met gap ls others
+met_alike gap ls some others same = sym (some_met gap ls some) ∙ ap is_some same ∙ some_met gap ls others
+
+-- without a stretch that meets one of the others there is no first pair
+pub none_met : (gap : Point) (ls others : List Stretch) → any_met gap ls others ≡ false → first_pair gap ls others ≡ None
+none_met gap ls others none = go (first_pair gap ls others) (some_met gap ls others ∙ none)
+  where
+    go : (found : Option (Both Stretch)) → is_some found ≡ false → found ≡ None
+    go None is = refl
+    go (Some pair) is = absurd (let never : true ≡ false = is in cc)
+
 -- what is found first, else what is found later
 abbrev pub found_or : Option (Both Stretch) → Option (Both Stretch) → Option (Both Stretch)
 found_or (Some pair) later = Some pair
 found_or None later = later
-
--- no stretch meets one of none
-pub none_to_meet : (gap : Point) (ls : List Stretch) → first_pair gap ls [] ≡ None
-none_to_meet gap [] = refl
-none_to_meet gap (l ∷ ls) = none_to_meet gap ls
 
 -- what the front of a list meets first the list meets first; else it is what its back meets
 pub pair_split : (gap : Point) (front back others : List Stretch)
@@ -170,11 +189,6 @@ pub back_pair : (gap : Point) (left front back near right : List Stretch) → fr
 back_pair gap left front back near right whole same is =
     ap (λ (found : Option (Both Stretch)). found_or found (first_pair gap back near)) (sym is)
     ∙ sym (pair_split gap front back near) ∙ ap (λ (l : List Stretch). first_pair gap l near) whole ∙ same
-
--- a list without items
-pub no_items : (xs : List Stretch) → length xs ≡ 0 → xs ≡ []
-no_items [] none = refl
-no_items (x ∷ xs) none = absurd (omega (arith, none))
 
 -- all of a list pass a test on its elements if all passed it before some were left out
 pub all_kept : (P : Stretch → Type 0) (test : Stretch → Bool) (xs : List Stretch) → All P xs → All P (filter test xs)

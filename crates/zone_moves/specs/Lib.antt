@@ -11,3 +11,4 @@ pub mod Cells
 pub mod Pairs
 -- For this crate alone.
 pub mod Trails
+pub mod Parts

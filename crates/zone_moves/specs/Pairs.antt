@@ -1,6 +1,7 @@
 -- Which two stretches of the paths come within the gap.
 use Rattle.std.specs.Prelude.{Bool, not, List, [], ◌∷◌, Option, Some, None, pos, ◌≤ℤ◌, if◌then◌else◌}
-use Rattle.std.specs.List.{find}
+use Rattle.std.specs.List.{find, list_any}
+use Rattle.std.specs.Option.{is_some}
 use Rattle.nc_number.specs.declared.both.Both.{Both}
 use Rattle.nc_number.specs.declared.point.Point.{Point}
 use Rattle.nc_number.specs.Distances.{distance}
@@ -15,6 +16,14 @@ meets gap a b = not (is_clear gap a b)
 -- the first of these stretches that comes within the gap of one
 abbrev pub first_met : Point → Stretch → List Stretch → Option Stretch
 first_met gap stretch others = find (λ (other : Stretch). meets gap stretch.area other.area) others
+
+-- the stretch comes within the gap of one of these
+abbrev pub is_met : Point → List Stretch → Stretch → Bool
+is_met gap others stretch = is_some (first_met gap stretch others)
+
+-- one of the stretches comes within the gap of one of the others
+abbrev pub any_met : Point → List Stretch → List Stretch → Bool
+any_met gap stretches others = list_any (is_met gap others) stretches
 
 -- the pair of two stretches if there is a second, else what is found later
 abbrev pub pair_or : Stretch → Option Stretch → Option (Both Stretch) → Option (Both Stretch)

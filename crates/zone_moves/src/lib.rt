@@ -12,10 +12,14 @@
 
 mod body;
 mod cell;
+mod contact;
 mod fixed;
 mod judging;
 mod laws;
 mod pairs;
+mod parts;
+mod pruning;
+mod span;
 mod stretch;
 mod trail;
 

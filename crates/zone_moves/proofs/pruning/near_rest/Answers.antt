@@ -1,11 +1,11 @@
 -- What is left out meets none of the stretches, since it does not meet their hull (`near_rest`,
--- src/pairs.rt).
+-- src/pruning.rt).
 use Rattle.std.proofs.Common.{◌∷◌, ◌∙◌, ap, sym, subst}
 use Rattle.std.specs.List.{All}
 use Rattle.zone_moves.specs.Pairs.{first_pair}
 use Rattle.zone_moves.specs.Stretches.{IsPlaced}
 use Rattle.zone_moves.proofs.Pruned.{hull_pruned, all_kept}
-use Rattle.zone_moves.proofs.pairs.near_rest.Goals as goal
+use Rattle.zone_moves.proofs.pruning.near_rest.Goals as goal
 
 pub returns-clause-same : goal.returns-clause-same
 returns-clause-same c =

@@ -1,9 +1,9 @@
 -- The hull so far, along the stretches that are left, is the hull along all (loop of `hull_along`,
--- src/pairs.rt).
+-- src/pruning.rt).
 use Rattle.std.proofs.Common.{◌≡◌, drop}
 use Rattle.zone_area.specs.Range.{IsInCell}
 use Rattle.zone_moves.specs.Pairs.{hull_along}
-use Rattle.zone_moves.proofs.pairs.hull_along.Given as goal
+use Rattle.zone_moves.proofs.pruning.hull_along.Given as goal
 
 abbrev pub invariant-loop-stretch : goal.invariant-loop-stretch
 invariant-loop-stretch l = record {

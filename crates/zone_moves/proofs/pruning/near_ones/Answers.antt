@@ -1,6 +1,6 @@
--- What is kept goes on to be what is kept of all (`near_ones`, src/pairs.rt).
+-- What is kept goes on to be what is kept of all (`near_ones`, src/pruning.rt).
 use Rattle.zone_moves.proofs.Pruned.{near_step}
-use Rattle.zone_moves.proofs.pairs.near_ones.Goals as goal
+use Rattle.zone_moves.proofs.pruning.near_ones.Goals as goal
 
 pub loop-stretch-preserved : goal.loop-stretch-preserved
 loop-stretch-preserved c =
