@@ -312,10 +312,10 @@ class Tape:
                 self.at = [old if new is None else new for old, new in zip(self.at, it[1:3])]
                 self.feed = it[3] if len(it) > 3 and it[3] is not None else self.feed
 
-    def write(self, block, found, again):
+    def write(self, block, found, again, *codes):
         """Blocks take the place of a line, with the code of motion that is in force again behind them."""
         self.do(found)
-        said = [self.line_of(it) for it in found] + ["G01"] * again
+        said = [self.line_of(it) for it in found] + [*codes] + ["G01"] * again
         said[:1] = [(f"N{block.number} " if block.number is not None else "") + it for it in said[:1]]
         self.lines += [f"{it} ({block.line})" for it in said]
 
@@ -374,7 +374,9 @@ class Tape:
 
     def read_holes(self, run):
         for block in self.in_run():
-            self.write(block, run.blocks(block, self.at), self.motion == 1)
+            found = run.blocks(block, self.at)
+            # (a feed to the point R leaves G01)
+            self.write(block, found, self.motion == 1, *["G00"] * (self.motion == 0 and run.kind != "drill" and run.level == 99))
         self.level = run.level
 
 

@@ -12,6 +12,8 @@ use Rattle.plain_block.specs.Blocks.{across_to, along_to}
 use Rattle.peck_cycle.specs.declared.along.Along.{Along}
 use Rattle.peck_cycle.specs.declared.along.Along.TheVariants.{Z, X}
 use Rattle.peck_cycle.specs.declared.drill.DrillCycle.{DrillCycle}
+use Rattle.peck_cycle.specs.declared.drill.ReturnLevel.{ReturnLevel}
+use Rattle.peck_cycle.specs.declared.drill.ReturnLevel.TheVariants.{Start, PointR}
 use Rattle.peck_cycle.specs.declared.fault.PeckFault.{PeckFault}
 use Rattle.peck_cycle.specs.Drills.{in_blocks, way_out}
 use Rattle.peck_cycle.specs.Faults.{hole_fault_of}
@@ -22,10 +24,11 @@ use Rattle.plain_form.specs.declared.answer.WrittenLine.{WrittenLine}
 use Rattle.plain_form.specs.declared.cause.PlainCause.{PlainCause}
 use Rattle.plain_form.specs.declared.cause.PlainCause.TheVariants as cause
 use Rattle.plain_form.specs.Said.{is_one_of}
+use Rattle.plain_form.specs.Made.{made_word, plain_line}
 use Rattle.cycle_words.specs.Numbers.{count_or, is_said}
 use Rattle.cycle_words.specs.Causes.{first_cause, calculated_in, no_count_in, is_taken}
 use Rattle.cycle_words.specs.Lines.{lines_of}
-use Rattle.cycle_words.specs.Motion.{code_lines}
+use Rattle.cycle_words.specs.Motion.{cuts_before, code_lines}
 use Rattle.cycle_words.specs.Scenes.{words_of, says_ends, refused}
 use Rattle.peck_form.specs.declared.turns.Turns.{Turns}
 use Rattle.peck_form.specs.declared.kind.HoleCode.{HoleCode}
@@ -146,13 +149,28 @@ rapid_beside X beside = along_to Rapid beside
 abbrev pub beside_lines : Along → ℤ → List Word → List Block
 beside_lines along beside words = if says_beside along words then lines_of None (rapid_beside along beside ∷ []) else []
 
+-- holes that are left by the feed to the point R leave G01 in force
+abbrev pub leaves_feed : HoleKind → ReturnLevel → Bool
+leaves_feed Drill returns = false
+leaves_feed Tap Start = false
+leaves_feed Tap PointR = true
+leaves_feed Bore Start = false
+leaves_feed Bore PointR = true
+
+-- the block that puts G00 in force again after them, if it was before the run
+abbrev pub rapid_lines : HoleSaid → List Block
+rapid_lines said =
+    if leaves_feed (kind_of said.code) said.returns && not (cuts_before said.motion)
+    then plain_line (made_word 71 (codes "00") ∷ []) ∷ []
+    else []
+
 -- steps
 
 -- the lines of a block's holes: the rapid beside them, the hole as often as it is repeated, and the
 -- code in force before the run
 abbrev pub block_lines : HoleSaid → Turns → ℤ → List PlainBlock → List PlainBlock → List Word → List Block
 block_lines said turns beside inside out words =
-    beside_lines (along_of said.code) beside words ++ (repeated (count_or 75 1 words) (hole_lines said turns inside out) ++ code_lines said.motion)
+    beside_lines (along_of said.code) beside words ++ (repeated (count_or 75 1 words) (hole_lines said turns inside out) ++ (rapid_lines said ++ code_lines said.motion))
 
 -- a hole without a fault, with its ways in and out, or with too many pecks
 abbrev pub cuts_by : HoleSaid → ℤ → FormSettings → Option (List PlainBlock) → List PlainBlock → List Word → HoleStep

@@ -3,24 +3,27 @@
 ghost use Rattle.std.specs.Prelude.{◌≡◌, ◌++◌, ◌∷◌, [], IfOk, OnOk, None};
 ghost use Rattle.peck_cycle.specs.Drills.{in_blocks, way_out};
 ghost use Rattle.peck_cycle.specs.Faults.{hole_fault_of};
+ghost use Rattle.cycle_words.specs.Motion.{is_cut, cuts_before};
 ghost use Rattle.peck_form.specs.Holes.{level_of, bottom_of};
-ghost use Rattle.peck_form.specs.Run.{letters_of, is_idle, is_strange, strange_letter, names_axis, has_idle, strange_cause, are_known, kind_cause, strange_words, repeats_cause, read_cause, axis_cause, words_cause, hole_lines, repeated, says_beside, beside_lines, block_lines, cuts_by, fault_step, bottom_step, level_step, said_step, block_step, run_from};
+ghost use Rattle.peck_form.specs.Run.{letters_of, is_idle, is_strange, strange_letter, names_axis, has_idle, strange_cause, are_known, kind_cause, strange_words, repeats_cause, read_cause, axis_cause, words_cause, hole_lines, repeated, says_beside, beside_lines, leaves_feed, rapid_lines, block_lines, cuts_by, fault_step, bottom_step, level_step, said_step, block_step, run_from};
 
 use crate::answers::hole_cause;
 use crate::groove::twice_cause;
 use crate::hole::{HoleSaid, bottom_of};
 use crate::kind::{HoleCode, HoleKind, ends_run, letter_of_place, letter_of_way, other_axis};
 use crate::turns::{Turns, push_turn, turns_of};
-use code_tables::System;
+use code_tables::{CodeKind, System};
 use cycle_words::{
     are_taken, calculated_in, count_or, first_cause, is_said, no_count_in, push_code_before,
     push_lines, refused, says_ends, words_of,
 };
 use nc_number::ListOf;
 use nc_text::{Block, BlockList, Word};
-use peck_cycle::{Along, DrillCycle};
+use peck_cycle::{Along, DrillCycle, ReturnLevel};
 use plain_block::{Course, PlainBlock};
-use plain_form::{FormAnswer, FormSettings, PlainCause, WrittenLine, is_one_of};
+use plain_form::{
+    FormAnswer, FormSettings, PlainCause, WrittenLine, is_one_of, plain_line, push_word,
+};
 use std::alloc::{AllocError, Global};
 
 /// The most often that a hole is repeated.
@@ -263,6 +266,54 @@ fn says_beside(words: &[Word], along: Along) -> bool
     is_said(words, letter_of_place(other)) || is_said(words, letter_of_way(other))
 }
 
+/// Whether holes are left by the feed to the point R, which leaves G01 in force.
+fn leaves_feed(kind: HoleKind, returns: ReturnLevel) -> bool
+    ensures { result ≡ leaves_feed kind returns }
+{
+    match (kind, returns) {
+        (HoleKind::Drill, ReturnLevel::Start) => false,
+        (HoleKind::Drill, ReturnLevel::PointR) => false,
+        (HoleKind::Tap, ReturnLevel::Start) => false,
+        (HoleKind::Tap, ReturnLevel::PointR) => true,
+        (HoleKind::Bore, ReturnLevel::Start) => false,
+        (HoleKind::Bore, ReturnLevel::PointR) => true,
+    }
+}
+
+/// Whether a code is G01.
+fn is_cut(kind: CodeKind) -> bool
+    ensures { result ≡ is_cut kind }
+{
+    matches!(kind, CodeKind::Feed)
+}
+
+/// Whether G01 was in force before a run.
+fn cuts_before(motion: &Option<CodeKind>) -> bool
+    ensures { result ≡ cuts_before motion.now }
+{
+    match *motion {
+        Some(kind) => is_cut(kind),
+        None => false,
+    }
+}
+
+/// Puts the block that puts G00 in force again, if it was before the run and the holes leave G01.
+fn push_rapid_before(
+    alloc: Global,
+    said: &HoleSaid,
+    lines: &mut Vec<Block>,
+) -> Result<(), AllocError>
+    ensures { OnOk result (lines.new.items ≡ lines.old.items ++ rapid_lines said.now) }
+{
+    if !leaves_feed(said.code.kind(), said.returns) || cuts_before(&said.motion) {
+        return Ok(());
+    }
+    let mut words = Vec::new(alloc);
+    push_word(alloc, &mut words, b'G', b"00")?;
+    lines.push(plain_line(words))?;
+    Ok(())
+}
+
 /// The lines of a block's holes: the rapid beside them, the hole as often as it is repeated, and
 /// the code in force before the run.
 fn block_lines(
@@ -281,6 +332,7 @@ fn block_lines(
     push_beside(alloc, words, said.code.along(), beside, &mut lines)?;
     let repeats = count_or(words, b'K', 1);
     push_repeats(alloc, said, turns, inside, out, repeats, &mut lines)?;
+    push_rapid_before(alloc, said, &mut lines)?;
     push_code_before(alloc, &said.motion, &mut lines)?;
     Ok(lines)
 }
