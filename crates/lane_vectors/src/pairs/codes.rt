@@ -2,7 +2,7 @@
 //! code each, and wait for nobody.
 //! runs.rt uses it.
 
-ghost use Rattle.std.specs.Prelude.{◌≡◌, [], ◌∷◌, false, Some};
+ghost use Rattle.std.specs.Prelude.{◌≡◌, [], ◌∷◌, true, false, Some};
 ghost use Rattle.nc_moves.specs.declared.motion.Move.TheVariants.{Aux};
 ghost use Rattle.nc_outside.specs.Lined.{lined_moves, lined_move};
 ghost use Rattle.lane_vectors.specs.Codes.{codes_told};
@@ -35,6 +35,8 @@ pub struct CodeTable<'a> {
     pub drained: u64,
     /// Why the table was halted.
     pub halt: Option<Halt>,
+    // The rest comes before the first record.
+    ghost unmade: { drains ≡ true → asked ≡ false → first.items ≡ [] },
 }
 
 impl<'a> CodeTable<'a> {
@@ -100,6 +102,7 @@ impl<'a> Turns for CodeTable<'a> {
         false
     }
 
+    #[tactic(auto, using(crate::proofs::RestFirst::answers_behind_rest, crate::proofs::RestFirst::rest_alone))]
     fn turn_step(&mut self, path: Path) -> Option<Next> {
         self.steps.fetch_add(1, SeqCst);
         if let Some(why) = self.halt {
