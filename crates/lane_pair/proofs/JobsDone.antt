@@ -22,6 +22,8 @@ use Rattle.path_worker.proofs.Working.{sent_is_answered}
 use Rattle.seat_table.specs.Passes.{Pass, Halter, has_halt, IsAsAtStop}
 use Rattle.seat_table.specs.declared.knowing.Stop.{Stop}
 use Rattle.seat_table.specs.Turning.{Tellings}
+use Rattle.kept_threads.specs.declared.order.Order.{Order}
+use Rattle.kept_threads.specs.declared.order.Order.TheVariants.{Work}
 use Rattle.lane_pair.specs.Jobs.{Worked, Drove}
 use Rattle.lane_pair.specs.Seats.{IsPathEnd}
 
@@ -82,3 +84,7 @@ pub stops_by : {C : Type 0} (told : C → Path → Tellings) (reason : C → Opt
     → IsAsAtStop told reason c stop → IsTrue (is_some stop) → IsTrue (is_some (reason c))
 stops_by told reason c (Some stop) is known = subst (λ (o : Option HaltWhy). IsTrue (is_some o)) (sym is.why) refl
 stops_by told reason c None is known = absurd (true≢false (sym known))
+
+-- a thread that was told nothing before was told this job alone
+pub told_work : {J : Type 0} (before after : List (Order J)) (job : J) → after ≡ before ++ Work job ∷ [] → before ≡ [] → after ≡ Work job ∷ []
+told_work before after job told idle = told ∙ ap (λ l. l ++ Work job ∷ []) idle

@@ -22,6 +22,6 @@ returns g c =
       line_is = c.run_drive.ensures.line.0;
       ended = c.run_drive.ensures.line.1;
       serves = subst (λ (s : TurretState). Serves (told_among c.run_drive.new.line.items) s driven) (ap (λ d. d.state) c.new-driven.ensures) c.run_drive.ensures.serves;
-      halted = halted_so job.path (has_failed driven.phase) _ c.into_pass-pass.result.calls c.into_pass-pass.result.stop (ap (λ p. p.calls) (begun ∙ job.fresh))
-          (subst (λ (p : Halter). IsCalled _ (Some p.calls) (halts_at job.path (has_failed driven.phase))) (sym back) c.run_drive.ensures.halted) c.into_pass-pass.ensures.told;
+      halted = halted_so job.path (has_failed driven.phase) c.halter-halter.result.calls c.into_pass-pass.result.calls c.into_pass-pass.result.stop (ap (λ p. p.calls) (begun ∙ job.fresh))
+          (subst (λ (p : Halter). IsCalled (Some c.halter-halter.result.calls) (Some p.calls) (halts_at job.path (has_failed driven.phase))) (sym back) c.run_drive.ensures.halted) c.into_pass-pass.ensures.told;
     }
