@@ -17,8 +17,8 @@ use Rattle.turret_run.proofs.run.run_crew.Goals as goal
 pub new-requires : goal.new-requires
 new-requires g c = subst (λ o. MayHold g.D.Disk.state o c.args.table) (sym c.requires.opening) (c.a_table_opens_itself.ensures c.args.table)
 
-pub run_pair-requires-clause-fresh : goal.run_pair-requires-clause-fresh
-run_pair-requires-clause-fresh g c κs within = none_since g.O.Opening.opened c.args.table c.new.result c.requires.opening c.new.ensures c.requires.rests
+pub run_pair-requires : goal.run_pair-requires
+run_pair-requires g c = record { fresh = none_since g.O.Opening.opened c.args.table c.new.result c.requires.opening c.new.ensures c.requires.rests }
 
 pub returns-in-Ok : goal.returns-in-Ok
 returns-in-Ok g c =
