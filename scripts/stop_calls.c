@@ -1,9 +1,10 @@
-/* Stops the program at one of its calls on a file, has that call fail or last, or tells its calls. A call is a read, a write or a sync
-   of a file with the name CALLS_FILE, or of the one with `.new` after it, which is to take its place, or the call that gives that one
-   the name, or a sync of the folder while the name is new. The one that is meant has the number CALLS_AT, from 1 on. With
-   CALLS_END=kill the program is killed just before it; with `fail` it fails; with `wait` it lasts until the file CALLS_ALSO has
-   CALLS_SIZE bytes, and if that takes too long the program ends with 99. With `log` each call of the file, and of the file CALLS_ALSO,
-   adds a line to the file CALLS_LOG.
+/* Stops the program at one of its calls on a file, has that call fail, be interrupted or last, or tells its calls. A call is a read, a
+   write or a sync of a file with the name CALLS_FILE, or of the one with `.new` after it, which is to take its place, or the call that
+   gives that one the name, or a sync of the folder while the name is new. The one that is meant has the number CALLS_AT, from 1 on.
+   With CALLS_END=kill the program is killed just before it; with `fail` it fails; with `interrupt` it does nothing, and answers that a
+   signal interrupted it (but the new name is given); with `wait` it lasts until the file CALLS_ALSO has CALLS_SIZE bytes, and if that
+   takes too long the program ends with 99. With `log` each call of the file, and of the file CALLS_ALSO, adds a line to the file
+   CALLS_LOG.
    A program that is killed leaves two more files, with what a loss of power may leave under the name: NAME.lost has nothing that was
    written since the last sync, and NAME.sevens has the byte 7 in each place that was written or added since then, also where it held
    the same byte before. While the name is new and the folder was not synced, NAME.lost is the file that had it before. Made into a
@@ -116,8 +117,11 @@ static int fails(void) {
         make_images();
         kill(getpid(), SIGKILL);
     }
-    return strcmp(end, "fail") == 0;
+    return strcmp(end, "fail") == 0 || strcmp(end, "interrupt") == 0;
 }
+
+/* Why a call fails that is to. */
+static int reason(void) { return strcmp(setting("CALLS_END"), "interrupt") == 0 ? EINTR : EIO; }
 
 /* Lets the call that is meant last until the other file is long enough. */
 static void last(void) {
@@ -144,7 +148,7 @@ static void last(void) {
         of->file = FILE;                                                              \
         if (fails()) {                                                                \
             pthread_mutex_unlock(&lock);                                              \
-            errno = EIO;                                                              \
+            errno = reason();                                                         \
             return -1;                                                                \
         }                                                                             \
         got = CALL;                                                                   \
@@ -159,7 +163,7 @@ static int sync_folder(int file, int (*given)(int)) {
     int got = -1;
     pthread_mutex_lock(&lock);
     if (fails())
-        errno = EIO;
+        errno = reason();
     else if ((got = given(file)) == 0)
         is_renamed = 0;
     pthread_mutex_unlock(&lock);
@@ -181,7 +185,7 @@ int rename(const char *from, const char *to) {
     *(void **)&given = dlsym(RTLD_NEXT, "rename");
     if (strcmp(to, setting("CALLS_FILE")) != 0) return given(from, to);
     pthread_mutex_lock(&lock);
-    if (fails()) {
+    if (fails() && reason() == EIO) {
         errno = EIO;
     } else if ((got = given(from, to)) == 0) {
         old = before;

@@ -25,3 +25,4 @@ pub use line::{Line, close_line};
 pub use line_in::{Drained, LineIn};
 pub use line_out::LineOut;
 pub use phase::Phase;
+pub use wire::{WireIn, WireOut, close_wire, new_wire};

@@ -17,11 +17,7 @@ pub struct Line;
 
 impl Line {
     /// The two ends of a new line, along which nothing went yet. It holds at most `bound` items.
-    pub fn new<'r, R, T: Turret>(
-        rt: &'r R,
-        alloc: Global,
-        bound: usize,
-    ) -> Result<(LineIn<'r, R>, LineOut<'r, R, T>), NoMemory>
+    pub fn new<T: Turret>(alloc: Global, bound: usize) -> Result<(LineIn, LineOut<T>), NoMemory>
         requires { 0 < bound }
         ensures one { IfOk result (λ r. r.0.line ≡ r.1.line) }
         ensures sending { IfOk result (λ r. (r.0.items ≡ []) × (r.0.received ≡ [])) }
@@ -30,8 +26,8 @@ impl Line {
     {
         let (to_drive, from_worker) = new_wire::<Item>(alloc, bound)?;
         let (to_worker, from_drive) = new_wire::<u64>(alloc, bound)?;
-        let sending = LineIn::over(rt, to_drive, from_drive);
-        let taking = LineOut::over(rt, from_worker, to_worker);
+        let sending = LineIn::over(to_drive, from_drive);
+        let taking = LineOut::over(from_worker, to_worker);
         Ok((sending, taking))
     }
 }
@@ -39,15 +35,15 @@ impl Line {
 /// Puts the two ends of a line together, and answers whether the end was taken. What was taken is a
 /// beginning of what was sent, the answers received are a beginning of those given, and what was
 /// sent before a drain that returned was taken.
-pub fn close_line<R, T: Turret>(sending: LineIn<'_, R>, taking: LineOut<'_, R, T>) -> bool
+pub fn close_line<T: Turret>(sending: LineIn, taking: LineOut<T>) -> bool
     requires { sending.line ≡ taking.line }
-    ensures items { (rest : List Sent) × (sending.entry.items ≡ taking.entry.items ++ rest) }
+    ensures items { (rest : List Sent) × (sending.items ≡ taking.items ++ rest) }
     ensures moves { (rest : List LinedMove)
-        × (moves_among sending.entry.items ≡ moves_among taking.entry.items ++ rest) }
-    ensures received { (rest : List ℕ) × (mark_counts 0 taking.entry.items ≡ sending.entry.received ++ rest) }
-    ensures drained { All (AreTaken sending.entry.items taking.entry.items) (mark_counts 0 sending.entry.items) }
-    ensures ended { result ≡ has_end taking.entry.items }
-    ensures whole { IsTrue result → taking.entry.items ≡ sending.entry.items }
+        × (moves_among sending.items ≡ moves_among taking.items ++ rest) }
+    ensures received { (rest : List ℕ) × (mark_counts 0 taking.items ≡ sending.received ++ rest) }
+    ensures drained { All (AreTaken sending.items taking.items) (mark_counts 0 sending.items) }
+    ensures ended { result ≡ has_end taking.items }
+    ensures whole { IsTrue result → taking.items ≡ sending.items }
 {
     let (to_drive, from_drive) = sending.into_wires();
     let (from_worker, to_worker, ended) = taking.into_wires();

@@ -30,9 +30,7 @@ impl Drain for Drained {
 /// it received. Nothing is sent behind the item `End`, and each mark (the item by which a drain
 /// asks for an answer) has been answered.
 #[derive(Drop)]
-pub struct LineIn<'r, R> {
-    /// What lets a call wait.
-    rt: &'r R,
+pub struct LineIn {
     /// The wire of the items.
     forth: WireIn<Item>,
     /// The wire of the answers.
@@ -41,7 +39,7 @@ pub struct LineIn<'r, R> {
     sent: u64,
 }
 
-impl<'r, R> Model for LineIn<'r, R> {
+impl Model for LineIn {
     ghost use Rattle.drive_line.specs.Line.{Sending, IsSending};
 
     ghost Value = { Sending };
@@ -55,9 +53,9 @@ impl<'r, R> Model for LineIn<'r, R> {
     ghost invariant = { λ l. IsSending l.sent l.forth.items l.back.items };
 }
 
-impl<'r, R> LineIn<'r, R> {
+impl LineIn {
     /// The end of a new line over these two wires.
-    pub(crate) fn over(rt: &'r R, forth: WireIn<Item>, back: WireOut<u64>) -> Self
+    pub(crate) fn over(forth: WireIn<Item>, back: WireOut<u64>) -> Self
         requires { (forth.items ≡ []) × (back.items ≡ []) }
         ensures { result ≡ record {
           line = record { forth = forth.wire; back = back.wire };
@@ -66,7 +64,6 @@ impl<'r, R> LineIn<'r, R> {
         } }
     {
         LineIn {
-            rt,
             forth,
             back,
             sent: 0,
@@ -75,61 +72,59 @@ impl<'r, R> LineIn<'r, R> {
 
     /// The wires that it was made of: that of its items, and that of the answers.
     pub(crate) fn into_wires(self) -> (WireIn<Item>, WireOut<u64>)
-        ensures line { self.entry.line ≡ record { forth = result.0.wire; back = result.1.wire } }
-        ensures items { (result.0.items ≡ self.entry.items) × (result.1.items ≡ self.entry.received) }
-        ensures last { EndIsLast self.entry.items }
-        ensures answered { All (Contains self.entry.received) (mark_counts 0 self.entry.items) }
+        ensures line { self.line ≡ record { forth = result.0.wire; back = result.1.wire } }
+        ensures items { (result.0.items ≡ self.items) × (result.1.items ≡ self.received) }
+        ensures last { EndIsLast self.items }
+        ensures answered { All (Contains self.received) (mark_counts 0 self.items) }
     {
         (self.forth, self.back)
     }
-}
 
-impl<'r, R: Wait> LineIn<'r, R> {
     /// Sends a move behind those that were sent. Where the line is full it waits, and past 2^64 - 1
     /// moves for ever.
-    pub fn send(&mut self, what: LinedMove)
+    pub fn send<R: Wait>(&mut self, rt: &R, what: LinedMove)
         requires { has_end self.old.items ≡ false }
         ensures line { self.new.line ≡ self.old.line }
         ensures items { self.new.items ≡ self.old.items ++ Item.Move what ∷ [] }
         ensures open { has_end self.new.items ≡ false }
         ensures received { self.new.received ≡ self.old.received }
     {
-        self.sent = next_count(self.rt, self.sent);
-        self.forth.send(self.rt, Item::Move(what));
+        self.sent = next_count(rt, self.sent);
+        self.forth.send(rt, Item::Move(what));
     }
 
     /// Sends the mark of a wait of this code, and waits for answers until one has the number of the
     /// moves that were sent.
-    pub fn drain(&mut self, code: u16) -> Drained
+    pub fn drain<R: Wait>(&mut self, rt: &R, code: u16) -> Drained
         requires { has_end self.old.items ≡ false }
         ensures drained { IsDrained code self.old self.new result.count }
         ensures open { has_end self.new.items ≡ false }
     {
-        self.forth.send(self.rt, Item::Mark(code));
-        await_answer(self.rt, &mut self.back, self.sent);
+        self.forth.send(rt, Item::Mark(code));
+        await_answer(rt, &mut self.back, self.sent);
         Drained { count: self.sent }
     }
 
     /// Sends that the path has ended, at which the turret is to stand still. Where the line is full
     /// it waits.
-    pub fn finish(&mut self)
+    pub fn finish<R: Wait>(&mut self, rt: &R)
         requires { has_end self.old.items ≡ false }
         ensures line { self.new.line ≡ self.old.line }
         ensures items { self.new.items ≡ self.old.items ++ Item.Finish ∷ [] }
         ensures open { has_end self.new.items ≡ false }
         ensures received { self.new.received ≡ self.old.received }
     {
-        self.forth.send(self.rt, Item::Finish);
+        self.forth.send(rt, Item::Finish);
     }
 
     /// Sends the end. Where the line is full it waits.
-    pub fn end_line(&mut self)
+    pub fn end_line<R: Wait>(&mut self, rt: &R)
         requires { has_end self.old.items ≡ false }
         ensures line { self.new.line ≡ self.old.line }
         ensures items { self.new.items ≡ self.old.items ++ Item.End ∷ [] }
         ensures received { self.new.received ≡ self.old.received }
     {
-        self.forth.send(self.rt, Item::End);
+        self.forth.send(rt, Item::End);
     }
 }
 

@@ -16,9 +16,7 @@ use std::sync::Wait;
 /// whether it owes an answer to the last, a mark. It answered each other mark with the number of
 /// the moves that it took before.
 #[derive(Drop)]
-pub struct LineOut<'r, R, T: Turret> {
-    /// What lets a call wait.
-    rt: &'r R,
+pub struct LineOut<T: Turret> {
     /// The wire of the items.
     forth: WireOut<Item>,
     /// The wire of the answers.
@@ -33,7 +31,7 @@ pub struct LineOut<'r, R, T: Turret> {
     of: PhantomData<T>,
 }
 
-impl<'r, R, T: Turret> Model for LineOut<'r, R, T> {
+impl<T: Turret> Model for LineOut<T> {
     ghost use Rattle.drive_line.specs.Line.{Taking, IsTaking};
 
     ghost Value = { Taking };
@@ -47,9 +45,9 @@ impl<'r, R, T: Turret> Model for LineOut<'r, R, T> {
     ghost invariant = { λ l. IsTaking l.taken l.ended l.asked l.forth.items l.back.items };
 }
 
-impl<'r, R, T: Turret> LineOut<'r, R, T> {
+impl<T: Turret> LineOut<T> {
     /// The end of a new line over these two wires.
-    pub(crate) fn over(rt: &'r R, forth: WireOut<Item>, back: WireIn<u64>) -> Self
+    pub(crate) fn over(forth: WireOut<Item>, back: WireIn<u64>) -> Self
         requires { (forth.items ≡ []) × (back.items ≡ []) }
         ensures { result ≡ record {
           line = record { forth = forth.wire; back = back.wire };
@@ -58,7 +56,6 @@ impl<'r, R, T: Turret> LineOut<'r, R, T> {
         } }
     {
         LineOut {
-            rt,
             forth,
             back,
             taken: 0,
@@ -71,19 +68,17 @@ impl<'r, R, T: Turret> LineOut<'r, R, T> {
     /// The wires that it was made of: that of its items, and that of the answers, and whether it
     /// took the end.
     pub(crate) fn into_wires(self) -> (WireOut<Item>, WireIn<u64>, bool)
-        ensures line { self.entry.line ≡ record { forth = result.0.wire; back = result.1.wire } }
-        ensures items { result.0.items ≡ self.entry.items }
-        ensures given { (rest : List ℕ) × (mark_counts 0 self.entry.items ≡ result.1.items ++ rest) }
-        ensures ended { result.2 ≡ has_end self.entry.items }
+        ensures line { self.line ≡ record { forth = result.0.wire; back = result.1.wire } }
+        ensures items { result.0.items ≡ self.items }
+        ensures given { (rest : List ℕ) × (mark_counts 0 self.items ≡ result.1.items ++ rest) }
+        ensures ended { result.2 ≡ has_end self.items }
     {
         (self.forth, self.back, self.ended)
     }
-}
 
-impl<'r, R: Wait, T: Turret> LineOut<'r, R, T> {
     /// The next item, and the end again behind the end. Where the line is empty it waits. A mark is
     /// to be answered before the next is taken.
-    pub fn take(&mut self) -> Item
+    pub fn take<R: Wait>(&mut self, rt: &R) -> Item
         requires { self.old.asked ≡ false }
         ensures line { self.new.line ≡ self.old.line }
         ensures taken { Takes self.old.items self.new.items result }
@@ -92,9 +87,9 @@ impl<'r, R: Wait, T: Turret> LineOut<'r, R, T> {
         if self.ended {
             return Item::End;
         }
-        let item = self.forth.take(self.rt);
+        let item = self.forth.take(rt);
         match item {
-            Item::Move(_) => self.taken = next_count(self.rt, self.taken),
+            Item::Move(_) => self.taken = next_count(rt, self.taken),
             Item::Mark(_) => self.asked = true,
             Item::Finish => {}
             Item::End => self.ended = true,
@@ -104,7 +99,7 @@ impl<'r, R: Wait, T: Turret> LineOut<'r, R, T> {
 
     /// Answers a mark with the number of the moves that were taken. Its turret took all of them and
     /// stands still behind them, or it failed and the run was halted for that.
-    pub fn answer(&mut self, driven: &Driven<T>)
+    pub fn answer<R: Wait>(&mut self, rt: &R, driven: &Driven<T>)
         requires asked { self.old.asked ≡ true }
         requires rest { IsAtRest driven.now (length (moves_among self.old.items)) }
         ensures line { self.new.line ≡ self.old.line }
@@ -112,7 +107,7 @@ impl<'r, R: Wait, T: Turret> LineOut<'r, R, T> {
         ensures answered { self.new.asked ≡ false }
     {
         let _ = driven;
-        self.back.send(self.rt, self.taken);
+        self.back.send(rt, self.taken);
         self.asked = false;
     }
 }

@@ -1,5 +1,5 @@
 //! A bounded channel from one end to one other: first in, first out.
-//! For this crate alone: a line is made of two wires, one forth and one back.
+//! A line is made of two wires, one forth and one back. Orders to a thread go along one too.
 ghost use Rattle.std.specs.Prelude.{◌≡◌, ◌<◌, List, true, [], ◌∷◌, ◌++◌, IfOk, MatchOption};
 ghost use Rattle.crossbeam_channel.specs.Claims.{view, IsSeatAt};
 ghost use Rattle.crossbeam_channel.specs.Ends.{sends_on, receives_on};

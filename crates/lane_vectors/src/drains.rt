@@ -112,7 +112,7 @@ fn watch<R: Threads + Wait + Sync>(
     alloc: Global,
     made: &AtomicU64,
 ) -> Result<bool, NoMemory> {
-    let ends = Line::new(rt, alloc, 64)?;
+    let ends = Line::new(alloc, 64)?;
     let lane = Lane {
         stepper: Watcher::new(made),
         halter: Watcher::new(made),

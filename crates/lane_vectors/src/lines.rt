@@ -16,37 +16,32 @@ use std::thread::Threads;
 
 /// Sends the rests from `first` to `last` milliseconds, each with its number as its line, with a
 /// drain after one of them, and then the end. It answers what the drain told.
-fn send_rests<R: Wait>(
-    line: LineIn<'_, R>,
-    first: u32,
-    drained: u32,
-    last: u32,
-) -> (u64, LineIn<'_, R>)
+fn send_rests<R: Wait>(rt: &R, line: LineIn, first: u32, drained: u32, last: u32) -> (u64, LineIn)
     requires { has_end line.items ≡ false }
-    ensures { result.1.line ≡ line.entry.line }
+    ensures { result.1.line ≡ line.line }
 {
     let mut line = line;
     let mut told = 0u64;
     for number in first..=last {
         let what = Move::Dwell { ms: number as u64 };
-        line.send(LinedMove { line: number, what });
+        line.send(rt, LinedMove { line: number, what });
         if number == drained {
-            told = line.drain(101).count();
+            told = line.drain(rt, 101).count();
         }
     }
-    line.end_line();
+    line.end_line(rt);
     (told, line)
 }
 
 /// Takes all that comes along the line with a turret, until the end, and gives the turret back.
-fn take_rests<'r, R: Wait>(
+fn take_rests<R: Wait>(
     rt: &R,
     alloc: Global,
-    line: LineOut<'r, R, MemoryTurret>,
+    line: LineOut<MemoryTurret>,
     turret: MemoryTurret,
-) -> (MemoryTurret, LineOut<'r, R, MemoryTurret>)
+) -> (MemoryTurret, LineOut<MemoryTurret>)
     requires { (line.items ≡ []) × (line.asked ≡ false) }
-    ensures { result.1.line ≡ line.entry.line }
+    ensures { result.1.line ≡ line.line }
 {
     let mut line = line;
     let mut driven = Driven::new(turret);
@@ -86,10 +81,10 @@ fn cross<R: Threads + Wait + Sync>(
 {
     let [first, drained, last] = rests;
     let turret = MemoryTurret::new(alloc, 1001, &[])?;
-    let (line_in, line_out) = Line::new(rt, alloc, bound)?;
+    let (line_in, line_out) = Line::new(alloc, bound)?;
     let ((told, line_in), (turret, line_out)) = thread::join(
         rt,
-        move || send_rests(line_in, first, drained, last),
+        move || send_rests(rt, line_in, first, drained, last),
         move || take_rests(rt, alloc, line_out, turret),
     );
     let next = next_of(turret.got(), first);

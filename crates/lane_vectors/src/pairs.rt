@@ -1,3 +1,3 @@
-//! Tests of turret_run: both paths of a table in memory, with a turret each.
+//! Tests of lane_pair and turret_run: both paths of a table in memory, with a turret each.
 mod codes;
 mod runs;

@@ -47,7 +47,7 @@ fn run<'r, R: Threads + Wait + Sync>(
 ) -> Result<End<'r, R>, NoMemory>
     requires { (0 < bound) × (lane.driven ≡ fresh_drive lane.driven.state) }
 {
-    match Line::new(rt, alloc, bound) {
+    match Line::new(alloc, bound) {
         Ok(ends) => Ok(run_lane(rt, Path::One, ends, lane)),
         Err(wanting) => Err(wanting),
     }

@@ -46,7 +46,7 @@ pub(crate) fn run<R, H, D, T, K>(
 where
     R: Threads + Wait + Sync,
     H: Shelf,
-    D: Disk + Send,
+    D: Disk + Drop + Send,
     T: Turret + Send,
     K: Sink,
     ensures { Ends (IsOverFiles pair_texts (files_in names.now) (IsRunAnew D.state limit)
@@ -78,7 +78,7 @@ pub(crate) fn run_texts<R, D, T, K>(
 ) -> Ended<D, T>
 where
     R: Threads + Wait + Sync,
-    D: Disk + Send,
+    D: Disk + Drop + Send,
     T: Turret + Send,
     K: Sink,
     requires left { length texts.tapes.one.items ≤ LONGEST_TAPE }
@@ -132,7 +132,7 @@ fn run_pair<R, D, T, K>(
 ) -> Ended<D, T>
 where
     R: Threads + Wait + Sync,
-    D: Disk + Send,
+    D: Disk + Drop + Send,
     T: Turret + Send,
     K: Sink,
     requires accepted { IsPairOf (texts_of_header header) pair }

@@ -60,7 +60,7 @@ pub fn top<R, H, D, E, T, K>(
 where
     R: Threads + Wait + Sync,
     H: Shelf,
-    D: Disk + Send,
+    D: Disk + Drop + Send,
     E: Disk,
     T: Turret + Send,
     K: Sink,
@@ -125,7 +125,7 @@ fn respond<R, H, D, E, T, K>(
 where
     R: Threads + Wait + Sync,
     H: Shelf,
-    D: Disk + Send,
+    D: Disk + Drop + Send,
     E: Disk,
     T: Turret + Send,
     K: Sink,
@@ -154,7 +154,7 @@ fn perform<R, H, D, E, T, K>(
 where
     R: Threads + Wait + Sync,
     H: Shelf,
-    D: Disk + Send,
+    D: Disk + Drop + Send,
     E: Disk,
     T: Turret + Send,
     K: Sink,

@@ -39,7 +39,7 @@ pub(crate) fn go_on<R, D, T, K>(
 ) -> Ended<D, T>
 where
     R: Threads + Wait + Sync,
-    D: Disk + Send,
+    D: Disk + Drop + Send,
     T: Turret + Send,
     K: Sink,
     requires may { MayRun table }

@@ -33,7 +33,7 @@ pub(crate) fn make<R, D, T, K>(
 ) -> Ended<D, T>
 where
     R: Threads + Wait + Sync,
-    D: Disk + Send,
+    D: Disk + Drop + Send,
     T: Turret + Send,
     K: Sink,
     ensures { Ends (IsRun D.state made_limit (made_text number) (made_texts number)

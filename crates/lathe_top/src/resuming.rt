@@ -35,7 +35,7 @@ pub(crate) fn resume<R, D, T, K>(
 ) -> Ended<D, T>
 where
     R: Threads + Wait + Sync,
-    D: Disk + Send,
+    D: Disk + Drop + Send,
     T: Turret + Send,
     K: Sink,
     ensures { Ends (IsResumed D.state limit (lathe_of D.state T.state lathe) (lathe_left D.state T.state result))
@@ -61,7 +61,7 @@ fn resume_found<R, D, T, K>(
 ) -> Ended<D, T>
 where
     R: Threads + Wait + Sync,
-    D: Disk + Send,
+    D: Disk + Drop + Send,
     T: Turret + Send,
     K: Sink,
     requires { IsRecovered D.state found.header found.verified found.machine.machine found.entries.items

@@ -54,7 +54,7 @@ fn halt_at_fault<H: Stepper, T: Turret>(path: Path, halter: &mut H, driven: &mut
 pub fn run_drive<R: Wait, H: Stepper, T: Turret>(
     rt: &R,
     path: Path,
-    line: &mut LineOut<'_, R, T>,
+    line: &mut LineOut<T>,
     halter: &mut H,
     driven: &mut Driven<T>,
 )
@@ -66,12 +66,12 @@ pub fn run_drive<R: Wait, H: Stepper, T: Turret>(
     ensures origin { H.origin halter.new ≡ H.origin halter.old }
 {
     for _ in rt.forever() {
-        let item = line.take();
+        let item = line.take(rt);
         serve(rt, &item, driven);
         halt_at_fault(path, halter, driven);
         match item {
             Item::Move(_) => {}
-            Item::Mark(_) => line.answer(driven),
+            Item::Mark(_) => line.answer(rt, driven),
             Item::Finish => {}
             Item::End => return,
         }

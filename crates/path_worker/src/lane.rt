@@ -42,37 +42,37 @@ pub struct LaneEnd<S: Drop, H: Drop, T: Turret> {
 
 /// What the worker's thread gives back.
 #[derive(Drop)]
-struct Worked<'r, S: Drop, R> {
+struct Worked<S: Drop> {
     /// Why the worker ended.
     why: Why,
     /// What made the steps of the path.
     stepper: S,
     /// The worker's end of the line.
-    line: LineIn<'r, R>,
+    line: LineIn,
 }
 
 /// What the drive's thread gives back.
 #[derive(Drop)]
-struct Drove<'r, H: Drop, T: Turret, R> {
+struct Drove<H: Drop, T: Turret> {
     /// What halted the run if the turret failed.
     halter: H,
     /// The turret, and what it was told.
     driven: Driven<T>,
     /// The drive's end of the line.
-    line: LineOut<'r, R, T>,
+    line: LineOut<T>,
 }
 
 /// What the worker's thread does: it works the path to its end, and gives back what it used.
-fn work<'r, R: Wait, S: Stepper + Drainable<Drained> + Drop>(
+fn work<R: Wait, S: Stepper + Drainable<Drained> + Drop>(
     rt: &R,
     path: Path,
     stepper: S,
-    line: LineIn<'r, R>,
-) -> Worked<'r, S, R>
+    line: LineIn,
+) -> Worked<S>
     requires { has_end line.items ≡ false }
-    ensures line { result.line.line ≡ line.entry.line }
+    ensures line { result.line.line ≡ line.line }
     ensures work { (answers : List Answer)
-        × Works path (S.calls stepper) (S.calls result.stepper) line.entry.items result.line.items answers
+        × Works path (S.calls stepper) (S.calls result.stepper) line.items result.line.items answers
         × IsWhole answers result.why }
     ensures origin { S.origin result.stepper ≡ S.origin stepper }
 {
@@ -83,16 +83,16 @@ fn work<'r, R: Wait, S: Stepper + Drainable<Drained> + Drop>(
 }
 
 /// What the drive's thread does: it serves the line to its end, and gives back what it used.
-fn drive<'r, R: Wait, H: Stepper + Drop, T: Turret>(
+fn drive<R: Wait, H: Stepper + Drop, T: Turret>(
     rt: &R,
     path: Path,
     halter: H,
     driven: Driven<T>,
-    line: LineOut<'r, R, T>,
-) -> Drove<'r, H, T, R>
+    line: LineOut<T>,
+) -> Drove<H, T>
     requires line { (line.items ≡ []) × (line.asked ≡ false) }
     requires driven { driven ≡ fresh_drive driven.state }
-    ensures line { (result.line.line ≡ line.entry.line) × (has_end result.line.items ≡ true) }
+    ensures line { (result.line.line ≡ line.line) × (has_end result.line.items ≡ true) }
     ensures serves { Serves (told_among result.line.items) driven.state result.driven }
     ensures halted { IsCalled (H.calls halter) (H.calls result.halter)
         (halts_at path (has_failed result.driven.phase)) }
@@ -114,7 +114,7 @@ fn drive<'r, R: Wait, H: Stepper + Drop, T: Turret>(
 pub fn run_lane<R, S, H, T>(
     rt: &R,
     path: Path,
-    ends: (LineIn<'_, R>, LineOut<'_, R, T>),
+    ends: (LineIn, LineOut<T>),
     lane: Lane<S, H, T>,
 ) -> LaneEnd<S, H, T>
 where
@@ -141,17 +141,17 @@ where
     let (line_in, line_out) = ends;
     let (worked, drove) = thread::join(
         rt,
-        move || -> Worked<'_, S, R>
+        move || -> Worked<S>
             requires { has_end line_in.items ≡ false }
-            ensures line { result.line.line ≡ line_in.entry.line }
+            ensures line { result.line.line ≡ line_in.line }
             ensures work { (answers : List Answer)
-                × Works path (S.calls stepper) (S.calls result.stepper) line_in.entry.items result.line.items answers
+                × Works path (S.calls stepper) (S.calls result.stepper) line_in.items result.line.items answers
                 × IsWhole answers result.why }
             ensures origin { S.origin result.stepper ≡ S.origin stepper }
         { work(rt, path, stepper, line_in) },
-        move || -> Drove<'_, H, T, R>
+        move || -> Drove<H, T>
             requires { (line_out.items ≡ []) × (line_out.asked ≡ false) × (driven ≡ fresh_drive driven.state) }
-            ensures line { (result.line.line ≡ line_out.entry.line) × (has_end result.line.items ≡ true) }
+            ensures line { (result.line.line ≡ line_out.line) × (has_end result.line.items ≡ true) }
             ensures serves { Serves (told_among result.line.items) driven.state result.driven }
             ensures halted { IsCalled (H.calls halter) (H.calls result.halter)
                 (halts_at path (has_failed result.driven.phase)) }

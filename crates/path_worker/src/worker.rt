@@ -23,17 +23,18 @@ pub enum Why {
 }
 
 /// Sends the moves of a block, in order.
-fn send_all<R: Wait>(line: &mut LineIn<'_, R>, moves: &Moves)
+fn send_all<R: Wait>(rt: &R, line: &mut LineIn, moves: &Moves)
     requires { has_end line.old.items ≡ false }
     ensures line { line.new.line ≡ line.old.line }
     ensures items { line.new.items ≡ line.old.items ++ map Sent (lined_moves moves.now) }
     ensures open { has_end line.new.items ≡ false }
 {
     for what in moves.list.as_slice() {
-        line.send(LinedMove {
+        let what = LinedMove {
             line: moves.line,
             what: *what,
-        });
+        };
+        line.send(rt, what);
     }
 }
 
@@ -41,9 +42,10 @@ fn send_all<R: Wait>(line: &mut LineIn<'_, R>, moves: &Moves)
 /// for a wait, or the end is sent, that of the path before it. It says why the worker ends, if it
 /// does.
 fn work_once<R: Wait, S: Stepper + Drainable<Drained>>(
+    rt: &R,
     path: Path,
     stepper: &mut S,
-    line: &mut LineIn<'_, R>,
+    line: &mut LineIn,
 ) -> Option<Why>
     requires { has_end line.old.items ≡ false }
     ensures line { line.new.line ≡ line.old.line }
@@ -56,21 +58,21 @@ fn work_once<R: Wait, S: Stepper + Drainable<Drained>>(
     match stepper.step(path) {
         Next::Silent => None,
         Next::Moves(moves) => {
-            send_all(line, &moves);
+            send_all(rt, line, &moves);
             None
         }
         Next::Drain(code) => {
-            let proof = line.drain(code);
+            let proof = line.drain(rt, code);
             stepper.drained(path, proof);
             None
         }
         Next::Finished => {
-            line.finish();
-            line.end_line();
+            line.finish(rt);
+            line.end_line(rt);
             Some(Why::Finished)
         }
         Next::Halted(why) => {
-            line.end_line();
+            line.end_line(rt);
             Some(Why::Halted(why))
         }
     }
@@ -83,7 +85,7 @@ pub fn run_path<R: Wait, S: Stepper + Drainable<Drained>>(
     rt: &R,
     path: Path,
     stepper: &mut S,
-    line: &mut LineIn<'_, R>,
+    line: &mut LineIn,
 ) -> Why
     requires { has_end line.old.items ≡ false }
     ensures line { line.new.line ≡ line.old.line }
@@ -93,7 +95,7 @@ pub fn run_path<R: Wait, S: Stepper + Drainable<Drained>>(
     ensures origin { S.origin stepper.new ≡ S.origin stepper.old }
 {
     for _ in rt.forever() {
-        if let Some(why) = work_once(path, stepper, line) {
+        if let Some(why) = work_once(rt, path, stepper, line) {
             return why;
         }
     }

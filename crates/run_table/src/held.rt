@@ -37,6 +37,7 @@ impl<D> Opening<D> for Brand {
 
 /// A table of the opening O, of which two paths take turns. It is what has come of the table as it
 /// was then: a run of the same pair, with more records.
+#[derive(Drop)]
 pub struct Held<D: Disk, O: Opening<D>> {
     /// The table as it is now.
     table: Table<D>,

@@ -21,6 +21,7 @@ use std::marker::Model;
 use std::sync::Wait;
 
 /// A table at which two paths and the drives of their turrets have a seat each.
+#[derive(Drop)]
 pub struct SeatTable<C: Turns> {
     // A turn moves the table twice, and it may be large: so it lies on the heap.
     table: Table<Option<Box<C>>, Knows, (), Law, Global>,

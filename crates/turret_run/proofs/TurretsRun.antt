@@ -74,6 +74,10 @@ follows_as state made a b new history flushed file version p = follows_with stat
     (subst (λ n. Follows state made (with_file b a.history n b.log.file b.log.version) new) flushed
     (subst (λ l. Follows state made (with_file b l b.flushed b.log.file b.log.version) new) history p))))
 
+-- a table is as it was if nothing was done
+pub all_stays : {D : Type 0} (t : TableView D) → Stays t t
+all_stays t = record { verified = refl; machine = refl; history = refl; flushed = refl; file = refl; version = refl; halt = refl }
+
 -- a table that got leave and room for its records, and is else as it was
 module _ {D : Type 0} (state : D → DiskState) (limit : ℕ) (old ready : TableView D) (stays : Stays old ready) (leave : ready.budget ≡ limit) where
   -- what comes of the table that was made ready is what comes of the old one with that leave

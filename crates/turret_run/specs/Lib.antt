@@ -3,7 +3,6 @@
 pub mod Served
 pub mod Runs
 pub mod Draining
--- How turrets are placed, what the threads leave and how the last turns are given. No other crate
--- cites them, but words of them stand in the contracts of the public `run_pair` and `give_turn`.
+-- How turrets are placed, and how the last turns are given. No other crate cites it, but words of it
+-- stand in the contract of the public `give_turn`.
 pub mod Rests
-pub mod Seats

@@ -1,17 +1,39 @@
-//! Tests of `run_pair` and `give_turn` (turret_run): runs of both paths in their threads, and
+//! Tests of `run_pair` (lane_pair) and `give_turn` (turret_run): runs of both paths in their threads, and
 //! single turns of one path.
 ghost use Rattle.std.specs.Prelude.{◌≡◌, [], false};
 
 use super::codes::CodeTable;
 use drive_line::Driven;
+use lane_pair::{Ran, gather, run_pair};
 use nc_number::{Both, NoMemory, Path};
 use nc_outside::{Halt, MemoryTurret, Turret};
 use std::alloc::Global;
 use std::sync::Wait;
 use std::sync::atomic::AtomicU64;
 use std::test::Fail;
-use std::thread::Threads;
-use turret_run::{Ran, give_turn, run_pair};
+use std::thread;
+use std::thread::{Scope, Threads};
+use turret_run::give_turn;
+
+/// Runs both paths of a table, with threads of this scope.
+fn run_in<'s, 'a: 's, E, R, T>(
+    rt: &'s R,
+    alloc: Global,
+    scope: &Scope<'s, E>,
+    table: CodeTable<'a>,
+    turrets: Both<T>,
+) -> Result<Ran<CodeTable<'a>, T>, NoMemory>
+where
+    R: Threads + Wait + Sync + 's,
+    T: Turret + Send + 's,
+    requires { (table.first.items ≡ []) × (table.second.items ≡ []) × (table.asked ≡ false) }
+{
+    let crew = gather(rt, alloc, scope)?;
+    match run_pair(rt, alloc, crew, table, turrets) {
+        Ok(ran) => Ok(ran),
+        Err(_) => Err(NoMemory),
+    }
+}
 
 /// Runs both paths of a table.
 fn run<'a, R: Threads + Wait + Sync, T: Turret + Send>(
@@ -22,10 +44,13 @@ fn run<'a, R: Threads + Wait + Sync, T: Turret + Send>(
 ) -> Result<Ran<CodeTable<'a>, T>, NoMemory>
     requires { (table.first.items ≡ []) × (table.second.items ≡ []) × (table.asked ≡ false) }
 {
-    match run_pair(rt, alloc, table, turrets) {
-        Ok(ran) => Ok(ran),
-        Err(_) => Err(NoMemory),
-    }
+    thread::scope(
+        thread::scope_env(),
+        rt,
+        move |scope| -> Result<Ran<CodeTable<'_>, T>, NoMemory>
+            requires { (table.first.items ≡ []) × (table.second.items ≡ []) × (table.asked ≡ false) }
+        { run_in(rt, alloc, scope, table, turrets) },
+    )
 }
 
 /// Runs path 1 up to 500 records, with a turret that fails at that call or at that settle. It

@@ -5,4 +5,4 @@ use Rattle.drive_line.specs.Line.{Sending, mark_counts}
 use Rattle.drive_line.proofs.line_in.LineIn.into_wires.Goals as goal
 
 pub returns-clause-answered : goal.returns-clause-answered
-returns-clause-answered g c = subst (λ (s : Sending). All (Contains s.received) (mark_counts 0 s.items)) c.self.view_is c.self.invariant.answered
+returns-clause-answered c = subst (λ (s : Sending). All (Contains s.received) (mark_counts 0 s.items)) c.self.view_is c.self.invariant.answered

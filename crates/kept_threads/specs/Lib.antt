@@ -1,0 +1,2 @@
+-- The words of the contracts of kept threads.
+pub mod Obeyed

@@ -1,0 +1,2 @@
+-- The lemmas of this crate, which no other crate uses.
+pub mod JobsDone
