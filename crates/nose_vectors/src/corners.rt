@@ -54,7 +54,7 @@ R 1000001 0 0 40000 0 40000 -30000 = large
 fn point_of(all: &[i64], place: usize) -> Point {
     Point {
         x: number_at(all, place),
-        z: number_at(all, place + 1),
+        z: number_at(all, place.saturating_add(1)),
     }
 }
 

@@ -42,7 +42,7 @@ fn point_in(all: &[i64], place: usize) -> Point
 {
     let point = Point {
         x: number_at(all, place),
-        z: number_at(all, place + 1),
+        z: number_at(all, place.saturating_add(1)),
     };
     if point.is_position() {
         point
