@@ -119,6 +119,15 @@ def ideal_path(side, radius, start, contour, end):
     return [start, *[at for corner in corners for at in corner], end], back
 
 
+def place_off(chance, side, tip, radius, at, line):
+    """Where the tool is before or after a contour: mostly with its centre on the tool's side of the line there."""
+    if chance.random() < 0.2:
+        return at[0] + chance.randint(-30000, 30000), at[1] + 2 * chance.randint(-8000, 8000)
+    x, z = along(at, aside(side, unit(*line)), radius + chance.randint(1000, 20000))
+    off = TIPS.get(tip, (0, 0))
+    return round(x) + off[0] * radius, 2 * round(z / 2) + off[1] * radius
+
+
 def tape_of(side, before, contour, after):
     """The tape of a contour."""
     first, *others = contour
@@ -147,8 +156,8 @@ def main(program, count, seed):
         for _ in range(count):
             side, tip, size = chance.choice((41, 42)), chance.randint(0, 9), chance.choice((100, 400, 800, 1200, 2400))
             radius, contour = 2 * size, any_contour(chance)
-            before = (contour[0][0] + chance.randint(-30000, 30000), contour[0][1] + 2 * chance.randint(-8000, 8000))
-            after = (contour[-1][0] + chance.randint(-30000, 30000), contour[-1][1] + 2 * chance.randint(-8000, 8000))
+            before = place_off(chance, side, tip, radius, contour[0], contour[:2])
+            after = place_off(chance, side, tip, radius, contour[-1], contour[-2:])
             tape.write_text(tape_of(side, before, contour, after))
             settings.write_text(f"nose 1 1 R{shown(size)} {tip}\n")
             done = subprocess.run([program, "plain", tape, settings], capture_output=True, text=True, check=False)
