@@ -66,7 +66,7 @@ answer_gives rules stands place line known steps (Written (first ∷ others)) wa
     go (slice_get stands place) refl (pass_lines rules stands true place known (first ∷ others)) refl e
   where
     gives : (stand : Stand) → slice_get stands place ≡ Some stand → (behind : Known)
-        → (Ok (record { known = behind; steps = steps ++ replaced_from stands place (first ∷ others) })) ≡ Ok walked → GivesWay steps walked.steps
+        → ◌≡◌ {A = Result Walked PlainFault} (Ok (record { known = behind; steps = steps ++ replaced_from stands place (first ∷ others) })) (Ok walked) → GivesWay steps walked.steps
     gives stand found behind e =
         let own : Step = step.Written (record { line = stand.line; sequence = stand.sequence; blocks = first.blocks }) in
         let same : ◌≡◌ {A = Walked} (record { known = behind; steps = steps ++ replaced_from stands place (first ∷ others) }) walked = cc in
@@ -74,7 +74,7 @@ answer_gives rules stands place line known steps (Written (first ∷ others)) wa
         (own, rest, sym (ap (λ (w : Walked). w.steps) same) ∙ ap (λ found. steps ++ (replaced_by found first ++ rest)) found, refl)
 
     passed : (found : Option Stand) → slice_get stands place ≡ found → (behind : Known) → pass_lines rules stands true place known (first ∷ others) ≡ Ok behind
-        → (Ok (record { known = behind; steps = steps ++ replaced_from stands place (first ∷ others) })) ≡ Ok walked → GivesWay steps walked.steps
+        → ◌≡◌ {A = Result Walked PlainFault} (Ok (record { known = behind; steps = steps ++ replaced_from stands place (first ∷ others) })) (Ok walked) → GivesWay steps walked.steps
     passed (Some stand) found behind is e = gives stand found behind e
     passed None found behind is e =
         absurd (let bad : and_then (line_found rules true None known first.blocks) (λ behind. pass_lines rules stands false (next_place place) behind others) ≡ Ok behind

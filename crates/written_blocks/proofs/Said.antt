@@ -1,7 +1,7 @@
 -- A tape that is read as what became of another says it, block by block. For
 -- `what_is_read_was_written` (src/law.rt).
 use Rattle.std.proofs.Common.{◌≡◌, ℕ, suc, ◌+◌, ◌==◌, Bool, true, false, cond, List, [], ◌∷◌, ◌++◌, length, map, drop, Option, None, Some, refl, ap, sym, subst, ◌∙◌, arith, append_assoc}
-use Rattle.std.specs.Prelude.{slice_get}
+use Rattle.std.specs.Prelude.{zero, slice_get}
 use Rattle.std.proofs.lemmas.Bool.{eqb-true}
 use Rattle.std.proofs.lemmas.List.{append-nil}
 use Rattle.std.proofs.lemmas.Slice.Eq.{bytes_eq-Decides}
@@ -66,7 +66,8 @@ words_same : (own others : List Word) → are_same_words own others ≡ true →
 words_same own others e = go (length own == length others) refl e
   where
     go : (b : Bool) → (length own == length others) ≡ b → cond b (are_at own 0 others) false ≡ true → map told_word own ≡ map told_word others
-    go true long e = words_at own 0 others e (eqb-true (length own) (length others) long)
+    go true long e =
+        let same : length own ≡ length others = eqb-true (length own) (length others) long in words_at own 0 others e (omega (arith, same))
     go false long e = absurd cc
 
 -- bodies that say the same are told alike
@@ -240,7 +241,7 @@ pub said : (again tape : List Program) (all : List (List Step)) → is_read_as a
 said again tape all e = go (length again == length all) refl e
   where
     tapes : length again ≡ length all → (b : Bool) → cond b (are_programs again tape 0 all) false ≡ true → told_programs again ≡ written_programs tape all
-    tapes long true e = programs_told again tape 0 all e long
+    tapes long true e = programs_told again tape 0 all e (omega (arith, long))
     tapes long false e = absurd cc
 
     go : (b : Bool) → (length again == length all) ≡ b → cond b (cond (length tape == length all) (are_programs again tape 0 all) false) false ≡ true

@@ -6,4 +6,4 @@ use Rattle.written_blocks.proofs.tapes.behind_blocks.Given as goal
 
 abbrev pub invariant-loop-block : goal.invariant-loop-block
 invariant-loop-block l =
-    behind_blocks l.again l.at l.number (drop l.block-index l.blocks) ≡ behind_blocks l.again l.start l.sequence l.blocks
+    behind_blocks l.again l.at l.number (drop l.block-index l.blocks) ≡ behind_blocks l.again l.start l.fn.sequence l.blocks
