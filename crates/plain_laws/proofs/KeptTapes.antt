@@ -219,8 +219,7 @@ programs_kept rules order done (program ∷ programs) out e kept =
         let front = parts_pass are_kept (done ++ steps ∷ []) (kept_steps programs) whole in
         let back = parts_pass are_kept done (steps ∷ []) front.0 in
         let one = both (are_kept steps) true back.1 in
-        let walked = walk_kept rules program.blocks (stands_of order (map (order_block rules.dialect) program.blocks)) rules.anywhere [] program.blocks steps is one.0 in
-        (
+        let walked = walk_kept rules program.blocks (stands_of order (map (order_block rules.dialect) program.blocks)) rules.anywhere [] program.blocks steps is one.0 in (
           rest.0 ∙ append_assoc done (steps ∷ []) (kept_steps programs) ∙ ap (λ s. done ++ s ∷ kept_steps programs) walked.0,
           All-cons (OfForms rules.dialect) program programs walked.1 rest.1,
         )

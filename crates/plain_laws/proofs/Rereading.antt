@@ -33,8 +33,8 @@ use Rattle.plain_laws.proofs.KeptTapes.{tape_kept}
 found_is : (r : Result (List (List Step)) PlainFault) (all : List (List Step)) → steps_found r ≡ Ok all → r ≡ Ok all
 found_is (Ok own) all e = go (size_of 0 own) e
   where
-    go : (size : Result ℕ PlainTapeFault) → if_sized own size ≡ Ok all → Ok own ≡ Ok all
-    go (Ok count) e = e
+    go : (size : Result ℕ PlainTapeFault) → if_sized own size ≡ Ok all → ◌≡◌ {A = Result (List (List Step)) PlainFault} (Ok own) (Ok all)
+    go (Ok count) e = let same : own ≡ all = cc in ap Ok same
     go (Err fault) e = absurd cc
 found_is (Err fault) all e = absurd cc
 
@@ -68,7 +68,7 @@ checked_is dialect forms tape all edits text out e = go (tape_of 0 text) refl e
   where
     stays : (again : List Program) → tape_of 0 text ≡ Ok again → is_read_as again tape all ≡ true
         → (steps : List (List Step)) → steps_of (rules_of dialect forms text again) again ≡ Ok steps → (b : Bool) → all_kept steps ≡ b
-        → cond b (Ok text) (Err (unlike edits)) ≡ Ok out → IsRead dialect forms tape all out
+        → ◌≡◌ {A = Result (List ℕ) PlainTapeFault} (cond b (Ok text) (Err (unlike edits))) (Ok out) → IsRead dialect forms tape all out
     stays again reads says steps are true kept e =
         let same : text ≡ out = cc in
         subst (λ t. IsRead dialect forms tape all t) same (record { again = again; reads = reads; says = says; steps = steps; steps_are = are; kept = kept })

@@ -183,20 +183,21 @@ passed_over rules all stands known steps place zero long within =
     let same : place ≡ length steps = omega (arith, long) in
     ap (λ n. walk_from rules all stands known steps n (drop n all)) same
 passed_over rules all stands known steps place (suc count) long within =
-    go (drop place all) refl
+    go (passed_over rules all stands known steps (place + 1) count (omega (arith, long)) within) (drop place all) refl
   where
     less : place < length steps
     less = omega (arith, long)
 
-    go : (rest : List Block) → drop place all ≡ rest
+    go : walk_from rules all stands known steps (place + 1) (drop (place + 1) all) ≡ walk_from rules all stands known steps (length steps) (drop (length steps) all)
+        → (rest : List Block) → drop place all ≡ rest
         → walk_from rules all stands known steps place rest ≡ walk_from rules all stands known steps (length steps) (drop (length steps) all)
-    go [] is = absurd (let before : length all ≤ place = all_before all place is in omega (arith, before, less, within))
-    go (block ∷ rest) is =
+    go more [] is = absurd (let before : length all ≤ place = all_before all place is in omega (arith, before, less, within))
+    go more (block ∷ rest) is =
         let next : drop (place + 1) all ≡ rest = rest_behind all place block rest is in
         ap (λ b. walk_then (cond b (Ok (record { known = known; steps = steps })) (step_at rules all stands place block (known_at rules stands place known) steps))
         (λ walked. walk_from rules all stands walked.known walked.steps (place + 1) rest)) (below place (length steps) less)
         ∙ ap (λ r. walk_from rules all stands known steps (place + 1) r) (sym next)
-        ∙ passed_over rules all stands known steps (place + 1) count (omega (arith, long)) within
+        ∙ more
 
 -- the relation, in the walk
 complete_from : (rules : Rules) (all : List Block) (stands : List Stand) (place : ℕ) (known : Known) (later steps : List Step)
