@@ -3,7 +3,7 @@
 ghost use Rattle.std.specs.Prelude.{◌≡◌, ◌++◌, ◌∷◌, [], IfOk, OnOk, None};
 ghost use Rattle.peck_cycle.specs.Drills.{in_blocks, way_out};
 ghost use Rattle.peck_cycle.specs.Faults.{hole_fault_of};
-ghost use Rattle.cycle_words.specs.Motion.{is_cut, cuts_before};
+ghost use Rattle.cycle_words.specs.Motion.{is_cut, cuts_before, code_lines};
 ghost use Rattle.peck_form.specs.Holes.{level_of, bottom_of};
 ghost use Rattle.peck_form.specs.Run.{letters_of, is_idle, is_strange, strange_letter, names_axis, has_idle, strange_cause, are_known, kind_cause, strange_words, repeats_cause, read_cause, axis_cause, words_cause, hole_lines, repeated, says_beside, beside_lines, leaves_feed, rapid_lines, block_lines, cuts_by, fault_step, bottom_step, level_step, said_step, block_step, run_from};
 
@@ -314,6 +314,20 @@ fn push_rapid_before(
     Ok(())
 }
 
+/// Puts what was in force before the run in force again: G00 if the holes leave G01, and the code
+/// itself.
+fn push_codes_before(
+    alloc: Global,
+    said: &HoleSaid,
+    lines: &mut Vec<Block>,
+) -> Result<(), AllocError>
+    ensures { OnOk result (lines.new.items ≡ lines.old.items ++ (rapid_lines said.now ++ code_lines said.now.motion)) }
+{
+    push_rapid_before(alloc, said, lines)?;
+    push_code_before(alloc, &said.motion, lines)?;
+    Ok(())
+}
+
 /// The lines of a block's holes: the rapid beside them, the hole as often as it is repeated, and
 /// the code in force before the run.
 fn block_lines(
@@ -332,8 +346,7 @@ fn block_lines(
     push_beside(alloc, words, said.code.along(), beside, &mut lines)?;
     let repeats = count_or(words, b'K', 1);
     push_repeats(alloc, said, turns, inside, out, repeats, &mut lines)?;
-    push_rapid_before(alloc, said, &mut lines)?;
-    push_code_before(alloc, &said.motion, &mut lines)?;
+    push_codes_before(alloc, said, &mut lines)?;
     Ok(lines)
 }
 

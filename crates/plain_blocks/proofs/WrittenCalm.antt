@@ -23,7 +23,7 @@ use Rattle.plain_blocks.specs.Calm.{IsCalmBlock, IsCalm, IsCalmLine, AreCalm}
 use Rattle.plain_blocks.specs.Order.{order_block, order_tape}
 use Rattle.plain_blocks.specs.Passing.{and_then as pass_then, goes_on, passed_by, behind_block, own_block, pass_block, pass_blocks}
 use Rattle.plain_blocks.specs.Targets.{stands_of}
-use Rattle.plain_blocks.specs.Walk.{Walked, and_then, line_cause, line_found, lines_at, line_by, at_line, pass_line, pass_lines, replaced_by, replaced_from, next_place, with_lines, with_answer, step_by, step_at, one_at, walk_then, walk_from, known_at, program_steps, steps_then, steps_from, steps_of}
+use Rattle.plain_blocks.specs.Walk.{Walked, and_then, line_cause, keeps_number, line_found, lines_at, line_by, at_line, pass_line, pass_lines, replaced_by, replaced_from, next_place, with_lines, with_answer, step_by, step_at, one_at, walk_then, walk_from, known_at, program_steps, steps_then, steps_from, steps_of}
 use Rattle.plain_blocks.specs.declared.passing.Passed.{Passed}
 use Rattle.plain_blocks.specs.declared.step.Step.{Step}
 use Rattle.plain_blocks.specs.declared.step.Step.TheVariants as step
@@ -94,18 +94,18 @@ line_calm : (rules : Rules) (stands : List Stand) (is_first : Bool) (place : ℕ
     → lines_at rules stands is_first place known line ≡ Ok behind → LineCalm rules.dialect stands place line
 line_calm rules stands is_first place known behind line is = go (slice_get stands place) refl is
   where
-    by : (stand : Stand) → slice_get stands place ≡ Some stand → (c : Option PlainCause) → line_cause rules is_first stand ≡ c
+    by : (stand : Stand) → slice_get stands place ≡ Some stand → (c : Option PlainCause) → line_cause rules (keeps_number is_first line.blocks) stand ≡ c
         → (r : Result Known PlainCause) → pass_blocks rules.dialect known line.blocks ≡ r → line_by c stand.line r ≡ Ok behind
         → LineCalm rules.dialect stands place line
     by stand found None none (Ok middle) e is =
-        (stand, found, went_on rules is_first stand none, blocks_calm rules.dialect known middle line.blocks e)
+        (stand, found, went_on rules (keeps_number is_first line.blocks) stand none, blocks_calm rules.dialect known middle line.blocks e)
     by stand found None none (Err why) e is = absurd cc
     by stand found (Some why) some r e is = absurd cc
 
     go : (found : Option Stand) → slice_get stands place ≡ found → line_found rules is_first found known line.blocks ≡ Ok behind
         → LineCalm rules.dialect stands place line
     go None found is = absurd cc
-    go (Some stand) found is = by stand found (line_cause rules is_first stand) refl (pass_blocks rules.dialect known line.blocks) refl is
+    go (Some stand) found is = by stand found (line_cause rules (keeps_number is_first line.blocks) stand) refl (pass_blocks rules.dialect known line.blocks) refl is
 
 -- the lines of a form that may be written out are calm
 lines_calm : (rules : Rules) (stands : List Stand) (is_first : Bool) (place : ℕ) (known behind : Known) (lines : List WrittenLine)

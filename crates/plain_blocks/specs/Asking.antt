@@ -16,6 +16,7 @@ use Rattle.peck_form.specs.Form.{peck_form}
 use Rattle.reference_form.specs.Form.{reference_form}
 use Rattle.rough_words.specs.Form.{rough_form}
 use Rattle.small_forms.specs.Codes.{codes_form}
+use Rattle.small_forms.specs.Foreign.{foreign_form}
 use Rattle.taper_form.specs.Form.{taper_form}
 use Rattle.thread_form.specs.Form.{thread_form}
 
@@ -49,9 +50,13 @@ or_else NotMine other = other
 or_else (Refused fault) other = Refused fault
 or_else (Written lines) other = Written lines
 
--- what the form of corners answers, or else that of codes
+-- what the form of codes answers, or else that of blocks that are refused by a cause of their own
+abbrev pub ask_codes : List Block → ℕ → Scene → FormSettings → FormAnswer
+ask_codes blocks place scene settings = or_else (codes_form blocks place scene settings) (foreign_form blocks place)
+
+-- what the form of corners answers, or else those of codes
 abbrev pub ask_corners : List Block → ℕ → Scene → FormSettings → FormAnswer
-ask_corners blocks place scene settings = or_else (corners_form blocks place scene) (codes_form blocks place scene settings)
+ask_corners blocks place scene settings = or_else (corners_form blocks place scene) (ask_codes blocks place scene settings)
 
 -- what the form of compensation of the nose answers, or else those of corners and of codes
 abbrev pub ask_noses : List Block → ℕ → Scene → FormSettings → FormAnswer

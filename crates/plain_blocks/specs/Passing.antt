@@ -1,5 +1,5 @@
 -- What is known behind blocks that this control's own language has. src/passing.rt computes it.
-use Rattle.std.specs.Prelude.{ℕ, Bool, true, false, ◌||◌, List, [], ◌∷◌, Option, Some, None, Result, Ok, Err, if◌then◌else◌}
+use Rattle.std.specs.Prelude.{ℕ, Bool, true, false, not, ◌&&◌, ◌||◌, ◌==◌, List, [], ◌∷◌, Option, Some, None, Result, Ok, Err, if◌then◌else◌}
 use Rattle.nc_text.specs.declared.tape.Block.{Block}
 use Rattle.block_order.specs.declared.control.Control.{Control}
 use Rattle.block_order.specs.declared.control.Control.TheVariants.{Next, Wait}
@@ -11,7 +11,11 @@ use Rattle.known_blocks.specs.Behind.{known_behind_words, known_behind_sentence}
 use Rattle.plain_form.specs.declared.cause.PlainCause.{PlainCause}
 use Rattle.plain_form.specs.declared.cause.PlainCause.TheVariants as cause
 use Rattle.code_tables.specs.declared.kind.CodeKind.{CodeKind}
+use Rattle.code_tables.specs.declared.kind.CodeKind.TheVariants.{CycleThread}
+use Rattle.std.specs.List.{list_any}
 use Rattle.line_text.specs.declared.body.Body.{Body}
+use Rattle.line_text.specs.declared.body.Body.TheVariants.{Words, Statement}
+use Rattle.line_text.specs.declared.body.Word.{Word}
 use Rattle.taper_form.specs.Kinds.{begins_cut}
 use Rattle.thread_form.specs.Taper.{begins_taper}
 use Rattle.plain_blocks.specs.declared.passing.Passed.{Passed}
@@ -44,9 +48,29 @@ passed_by known (Err number) = None
 abbrev pub behind_block : Dialect → Known → Block → Option Passed
 behind_block dialect known block = passed_by known (block_or_refusal dialect block)
 
--- a block begins a thread or a cut along a taper, if this code of motion is in force
+-- this code of motion is a thread's cycle
+abbrev pub is_thread_kind : CodeKind → Bool
+is_thread_kind CycleThread = true
+is_thread_kind other = false
+
+abbrev pub is_thread : Option CodeKind → Bool
+is_thread None = false
+is_thread (Some kind) = is_thread_kind kind
+
+-- a word has this letter; 71 is G, 82 R
+abbrev pub has_letter : ℕ → List Word → Bool
+has_letter letter words = list_any (λ word. word.letter == letter) words
+
+-- a block goes on with a taper under the code of a thread
+abbrev pub holds_taper : Option CodeKind → Body → Bool
+holds_taper motion (Words words) = is_thread motion && (has_letter 82 words && not (has_letter 71 words))
+holds_taper motion (Statement text) = false
+
+-- a block begins a thread or a cut along a taper, or goes on with one, if this code of motion is in
+-- force
 abbrev pub has_taper : Dialect → Option CodeKind → Body → Bool
-has_taper dialect motion body = begins_taper dialect.system body || begins_cut dialect.system motion body
+has_taper dialect motion body =
+    begins_taper dialect.system body || (begins_cut dialect.system motion body || holds_taper motion body)
 
 -- a block of it that stays: one that begins a thread or a cut along a taper does not
 abbrev pub own_block : Dialect → Known → Block → Option Passed

@@ -58,12 +58,17 @@ mark_of (Some marked) = marked
 abbrev pub is_marked : List Bool → ℕ → Bool
 is_marked marks line = mark_of (slice_get marks (line - 1))
 
--- why a line may not be written out: it does more than go on, a path may be led to its number though
--- it is not the first of its form, or it has a skip sign
+-- the number of a line stays: it is the first of its form, and a block stands in its place
+abbrev pub keeps_number : Bool → List Block → Bool
+keeps_number is_first [] = false
+keeps_number is_first (block ∷ blocks) = is_first
+
+-- why a line may not be written out: it does more than go on, a path may be led to its number, which
+-- goes, or it has a skip sign
 abbrev pub line_cause : Rules → Bool → Stand → Option PlainCause
-line_cause rules is_first stand =
+line_cause rules keeps stand =
     if not (goes_on stand.control) then Some cause.Control
-    else if not is_first && stand.target then Some cause.Target
+    else if not keeps && stand.target then Some cause.Target
     else if is_marked rules.skips stand.line then Some cause.Skip
     else None
 
@@ -80,7 +85,7 @@ line_by (Some why) line behind = Err (record { line = line; cause = why })
 -- what is known behind a line that is written out, or why it may not be
 abbrev pub pass_line : Rules → Bool → Stand → Known → List Block → Result Known PlainFault
 pass_line rules is_first stand known blocks =
-    line_by (line_cause rules is_first stand) stand.line (pass_blocks rules.dialect known blocks)
+    line_by (line_cause rules (keeps_number is_first blocks) stand) stand.line (pass_blocks rules.dialect known blocks)
 
 -- the same where the block is found
 abbrev pub line_found : Rules → Bool → Option Stand → Known → List Block → Result Known PlainFault

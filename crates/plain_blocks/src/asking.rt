@@ -1,7 +1,7 @@
 //! The forms, and what is known where they are asked. A further form is a further function that asks
 //! it, and else the next one.
 ghost use Rattle.std.specs.Prelude.{◌≡◌, IfOk};
-ghost use Rattle.plain_blocks.specs.Asking.{number_of, value_of, scene_of, ask_corners, ask_noses, ask_rough, ask_pecks, ask_references, ask_tapers, ask};
+ghost use Rattle.plain_blocks.specs.Asking.{number_of, value_of, scene_of, ask_codes, ask_corners, ask_noses, ask_rough, ask_pecks, ask_references, ask_tapers, ask};
 
 use code_tables::System;
 use corner_words::corners_form;
@@ -13,7 +13,7 @@ use peck_form::peck_form;
 use plain_form::{FormAnswer, FormSettings, Scene, Unit};
 use reference_form::reference_form;
 use rough_words::rough_form;
-use small_forms::codes_form;
+use small_forms::{codes_form, foreign_form};
 use std::alloc::{AllocError, Global};
 use taper_form::taper_form;
 use thread_form::thread_form;
@@ -55,6 +55,24 @@ pub(crate) fn scene_of(system: System, known: &Known) -> Scene
     }
 }
 
+/// What the form of codes answers, or else that of blocks that are refused by a cause of their own.
+fn ask_codes(
+    alloc: Global,
+    blocks: &[Block],
+    place: usize,
+    scene: &Scene,
+    settings: &FormSettings,
+) -> Result<FormAnswer, AllocError>
+    ensures { IfOk result (λ answer. answer ≡ ask_codes blocks.now place scene.now settings.now) }
+{
+    let answer = codes_form(alloc, blocks, place, scene, settings)?;
+    match answer {
+        FormAnswer::NotMine => Ok(foreign_form(blocks, place)),
+        FormAnswer::Refused(fault) => Ok(FormAnswer::Refused(fault)),
+        FormAnswer::Written(lines) => Ok(FormAnswer::Written(lines)),
+    }
+}
+
 /// What the form of corners answers, or else that of codes.
 fn ask_corners(
     alloc: Global,
@@ -67,7 +85,7 @@ fn ask_corners(
 {
     let answer = corners_form(alloc, blocks, place, scene)?;
     match answer {
-        FormAnswer::NotMine => codes_form(alloc, blocks, place, scene, settings),
+        FormAnswer::NotMine => ask_codes(alloc, blocks, place, scene, settings),
         FormAnswer::Refused(fault) => Ok(FormAnswer::Refused(fault)),
         FormAnswer::Written(lines) => Ok(FormAnswer::Written(lines)),
     }

@@ -2,13 +2,14 @@
 ghost use Rattle.std.specs.Prelude.{◌≡◌, IfOk};
 ghost use Rattle.nc_number.specs.Answers.{Gives};
 ghost use Rattle.block_forms.specs.Blocks.{block_form};
-ghost use Rattle.plain_blocks.specs.Passing.{goes_on, known_past, behind_block, has_taper, own_block, pass_block, pass_blocks};
+ghost use Rattle.plain_blocks.specs.Passing.{goes_on, known_past, behind_block, is_thread, has_letter, holds_taper, has_taper, own_block, pass_block, pass_blocks};
 
 use block_forms::{Dialect, FlowBlock, read_block};
 use block_order::Control;
+use code_tables::CodeKind;
 use known_blocks::{Known, known_behind};
 use nc_number::{Failing, NoMemory};
-use nc_text::Block;
+use nc_text::{Block, Body, Word};
 use plain_form::PlainCause;
 use std::alloc::Global;
 use taper_form::begins_cut;
@@ -56,11 +57,41 @@ pub(crate) fn behind_block(
     }
 }
 
-/// Whether a block begins a thread or a cut along a taper, which the control reads and does not run.
+/// Whether this code of motion is a thread's cycle.
+fn is_thread(motion: Option<CodeKind>) -> bool
+    ensures { result ≡ is_thread motion }
+{
+    matches!(motion, Some(CodeKind::CycleThread))
+}
+
+/// Whether a word has this letter.
+fn has_letter(words: &[Word], letter: u8) -> bool
+    ensures { result ≡ has_letter letter words.now }
+{
+    words.iter().any(|word| word.letter == letter)
+}
+
+/// Whether a block goes on with a taper under the code of a thread.
+fn holds_taper(motion: Option<CodeKind>, body: &Body) -> bool
+    ensures { result ≡ holds_taper motion body.now }
+{
+    match body {
+        Body::Words(words) => {
+            let words = words.as_slice();
+            is_thread(motion) && (has_letter(words, b'R') && !has_letter(words, b'G'))
+        }
+        Body::Statement(_) => false,
+    }
+}
+
+/// Whether a block begins a thread or a cut along a taper, or goes on with one, which the control reads
+/// and does not run.
 fn has_taper(dialect: &Dialect, known: &Known, block: &Block) -> bool
     ensures { result ≡ has_taper dialect.now known.now.motion block.now.body }
 {
-    begins_taper(block, dialect.system) || begins_cut(block, dialect.system, &known.motion)
+    begins_taper(block, dialect.system)
+        || (begins_cut(block, dialect.system, &known.motion)
+            || holds_taper(known.motion, &block.body))
 }
 
 /// A block of this control's language that stays: none if it is not one of it, or if it begins a

@@ -4,7 +4,7 @@ ghost use Rattle.std.specs.Option.{option_copied};
 ghost use Rattle.nc_number.specs.Answers.{Gives};
 ghost use Rattle.known_blocks.specs.Entries.{is_among, some_return_in};
 ghost use Rattle.plain_blocks.specs.Order.{order_tape, HasNumber};
-ghost use Rattle.plain_blocks.specs.Walk.{is_left_by, is_entered_by, is_entry_at, known_at, is_marked, line_cause, pass_line, pass_lines, lines_at, no_form, replaced_by, replaced_from, with_answer, step_at, one_at, walk_from, program_steps, steps_from, steps_of};
+ghost use Rattle.plain_blocks.specs.Walk.{is_left_by, is_entered_by, is_entry_at, known_at, is_marked, line_cause, keeps_number, pass_line, pass_lines, lines_at, no_form, replaced_by, replaced_from, with_answer, step_at, one_at, walk_from, program_steps, steps_from, steps_of};
 
 use crate::asking::{ask, scene_of};
 use crate::order::{order_blocks, order_tape};
@@ -87,21 +87,31 @@ fn is_marked(marks: &[bool], line: u32) -> bool
     }
 }
 
-/// Why a line may not be written out: it does more than go on, a path may be led to its number
-/// though it is not the first of its form, or it has a skip sign.
-fn line_cause(rules: &Rules, is_first: bool, stand: &Stand) -> Option<PlainCause>
-    ensures { result ≡ line_cause rules.now is_first stand.now }
+/// Why a line may not be written out: it does more than go on, a path may be led to its number,
+/// which goes, or it has a skip sign.
+fn line_cause(rules: &Rules, keeps: bool, stand: &Stand) -> Option<PlainCause>
+    ensures { result ≡ line_cause rules.now keeps stand.now }
 {
     if !goes_on(stand.control) {
         return Some(PlainCause::Control);
     }
-    if !is_first && stand.target {
+    if !keeps && stand.target {
         return Some(PlainCause::Target);
     }
     if is_marked(rules.skips.as_slice(), stand.line) {
         return Some(PlainCause::Skip);
     }
     None
+}
+
+/// Whether the number of a line stays: it is the first of its form, and a block stands in its place.
+fn keeps_number(is_first: bool, blocks: &[Block]) -> bool
+    ensures { result ≡ keeps_number is_first blocks.now }
+{
+    if blocks.is_empty() {
+        return false;
+    }
+    is_first
 }
 
 /// What is known behind a line that is written out, or why it may not be.
@@ -115,7 +125,8 @@ fn pass_line(
 ) -> Result<Known, Failing<PlainFault>>
     ensures { Gives (λ known. known) result (pass_line rules.now is_first stand.now known.now blocks.now) }
 {
-    if let Some(cause) = line_cause(rules, is_first, stand) {
+    let keeps = keeps_number(is_first, blocks);
+    if let Some(cause) = line_cause(rules, keeps, stand) {
         return Err(Failing::Fault(PlainFault {
             line: stand.line,
             cause,

@@ -1,3 +1,4 @@
 -- What callers read.
 pub mod Codes
+pub mod Foreign
 pub mod Idle

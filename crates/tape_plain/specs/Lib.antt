@@ -5,4 +5,6 @@ pub mod Plain
 pub mod BlockText
 pub mod Comments
 pub mod Draft
+pub mod Again
+pub mod Rules
 pub mod Skips

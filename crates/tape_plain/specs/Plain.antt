@@ -1,21 +1,15 @@
 -- A tape written out: the contract of `plain_tape` (src/plain.rt).
-use Rattle.std.specs.Prelude.{ℕ, Bool, true, false, not, ◌||◌, List, Option, Some, None, Result, Ok, Err, pos, if◌then◌else◌}
-use Rattle.std.specs.List.{list_any}
-use Rattle.code_tables.specs.declared.system.System.{System}
-use Rattle.code_tables.specs.declared.system.System.TheVariants.{A, B}
+use Rattle.std.specs.Prelude.{ℕ, List, Result, Ok, Err, if◌then◌else◌}
 use Rattle.cell_settings.specs.Cell.{Cell, settings_of}
-use Rattle.line_text.specs.declared.body.Body.{Body}
-use Rattle.line_text.specs.declared.body.Body.TheVariants.{Words, Statement}
 use Rattle.nc_text.specs.declared.fault.TextFault.{TextFault}
 use Rattle.nc_text.specs.declared.tape.Program.{Program}
 use Rattle.nc_text.specs.Lines.{lines_of}
 use Rattle.nc_text.specs.Tape.{tape_of}
 use Rattle.comma_words.specs.Reading.{comma_tape}
 use Rattle.block_words.specs.declared.dialect.Dialect.{Dialect}
-use Rattle.known_blocks.specs.declared.known.Known.{Known}
-use Rattle.known_blocks.specs.Known.{unknown}
+use Rattle.line_edits.specs.declared.edits.Edit.{Edit}
 use Rattle.line_edits.specs.Splice.{edited_lines}
-use Rattle.plain_form.specs.Said.{has_code}
+use Rattle.output_lines.specs.Lines.{without_outputs}
 use Rattle.plain_form.specs.declared.settings.FormSettings.{FormSettings}
 use Rattle.form_lines.specs.Cell.{cell_text}
 use Rattle.form_lines.specs.Choosing.{choices_said}
@@ -23,43 +17,12 @@ use Rattle.plain_form.specs.declared.cause.PlainFault.{PlainFault}
 use Rattle.plain_blocks.specs.declared.step.Step.{Step}
 use Rattle.plain_blocks.specs.declared.walk.Rules.{Rules}
 use Rattle.plain_blocks.specs.Walk.{steps_of}
+use Rattle.tape_plain.specs.Again.{all_kept, checked}
 use Rattle.tape_plain.specs.Comments.{comments_of}
 use Rattle.tape_plain.specs.Draft.{edits_of, size_of}
-use Rattle.tape_plain.specs.Skips.{skips_of}
+use Rattle.tape_plain.specs.Rules.{rules_of}
 use Rattle.tape_plain.specs.declared.fault.PlainTapeFault.{PlainTapeFault}
 use Rattle.tape_plain.specs.declared.fault.PlainTapeFault.TheVariants.{BadSetting, Unreadable, NotPlain}
-
--- the block has G91, which makes lengths ways
-abbrev pub is_ways : Body → Bool
-is_ways (Words words) = has_code (pos 91000000) words
-is_ways (Statement text) = false
-
--- a block of a program has
-abbrev pub has_ways : Program → Bool
-has_ways program = list_any (λ block. is_ways block.body) program.blocks
-
--- it is system A, which has no G91
-abbrev pub is_a : System → Bool
-is_a A = true
-is_a B = false
-
--- X and Z are where a block goes on the whole tape
-abbrev pub is_absolute : System → List Program → Bool
-is_absolute system tape = is_a system || not (list_any has_ways tape)
-
--- what is known before every block of a tape: lengths are places if they can be nothing else
-abbrev pub known_anywhere : System → List Program → Known
-known_anywhere system tape =
-    if is_absolute system tape then record unknown { incremental = Some false } else unknown
-
--- what holds over the whole tape
-abbrev pub rules_of : Dialect → FormSettings → List ℕ → List Program → Rules
-rules_of dialect forms text tape = record {
-  dialect = dialect;
-  settings = forms;
-  anywhere = known_anywhere dialect.system tape;
-  skips = skips_of text;
-}
 
 -- these steps, if a tape has at most 20,000 blocks with them
 abbrev pub if_sized : List (List Step) → Result ℕ PlainTapeFault → Result (List (List Step)) PlainTapeFault
@@ -78,34 +41,54 @@ steps_found (Err fault) = Err (NotPlain fault)
 abbrev pub steps_by_rules : Rules → List Program → Result (List (List Step)) PlainTapeFault
 steps_by_rules rules tape = steps_found (steps_of rules tape)
 
--- the same of a tape that was read with words after commas, if it was
-abbrev pub steps_of_shop : Dialect → FormSettings → List ℕ → Result (List Program) TextFault → Result (List (List Step)) PlainTapeFault
-steps_of_shop dialect forms text (Ok tape) = steps_by_rules (rules_of dialect forms text tape) tape
-steps_of_shop dialect forms text (Err fault) = Err (Unreadable fault)
+-- the lines that give way for what becomes of the blocks of a text
+abbrev pub edits_in : List ℕ → List (List Step) → List Edit
+edits_in text all = edits_of (comments_of text) all
 
--- what becomes of the blocks of a text in which words may stand after commas
-abbrev pub steps_of_commas : Dialect → FormSettings → List ℕ → Result (List (List Step)) PlainTapeFault
-steps_of_commas dialect forms text = steps_of_shop dialect forms text (comma_tape text)
+-- the text with what becomes of the blocks of its tape, if it reads as that
+abbrev pub written_text : Dialect → FormSettings → List ℕ → List Program → List (List Step) → Result (List ℕ) PlainTapeFault
+written_text dialect forms text tape all =
+    checked dialect forms tape all (edits_in text all) (edited_lines 1 (edits_in text all) (lines_of text))
 
--- the same of a tape that was read as it stands; one that was not may have words after commas
-abbrev pub steps_of_read : Dialect → FormSettings → List ℕ → Result (List Program) TextFault → Result (List (List Step)) PlainTapeFault
-steps_of_read dialect forms text (Ok tape) = steps_by_rules (rules_of dialect forms text tape) tape
-steps_of_read dialect forms text (Err fault) = steps_of_commas dialect forms text
+-- the same of what became of the blocks, if it was found
+abbrev pub shop_text : Dialect → FormSettings → List ℕ → List Program → Result (List (List Step)) PlainTapeFault → Result (List ℕ) PlainTapeFault
+shop_text dialect forms text tape (Ok all) = written_text dialect forms text tape all
+shop_text dialect forms text tape (Err fault) = Err fault
 
--- what becomes of the blocks of a text, read with no skip switch set
-unfoldable pub steps_in : Dialect → FormSettings → List ℕ → Result (List (List Step)) PlainTapeFault
-steps_in dialect forms text = steps_of_read dialect forms text (tape_of 0 text)
+-- the same of a tape that was read as it stands: the text itself, if all blocks stay
+abbrev pub own_text : Dialect → FormSettings → List ℕ → List Program → Result (List (List Step)) PlainTapeFault → Result (List ℕ) PlainTapeFault
+own_text dialect forms text tape (Ok all) = if all_kept all then Ok text else written_text dialect forms text tape all
+own_text dialect forms text tape (Err fault) = Err fault
 
--- the text with these steps taken
-abbrev pub plain_lines : List ℕ → Result (List (List Step)) PlainTapeFault → Result (List ℕ) PlainTapeFault
-plain_lines text (Ok all) = Ok (edited_lines 1 (edits_of (comments_of text) all) (lines_of text))
-plain_lines text (Err fault) = Err fault
+-- what becomes of the blocks of a tape that was read from this text
+abbrev pub steps_in : Dialect → FormSettings → List ℕ → List Program → Result (List (List Step)) PlainTapeFault
+steps_in dialect forms text tape = steps_by_rules (rules_of dialect forms text tape) tape
+
+-- the text of a tape that was read with words after commas, if it was
+abbrev pub plain_by_commas : Dialect → FormSettings → List ℕ → Result (List Program) TextFault → Result (List ℕ) PlainTapeFault
+plain_by_commas dialect forms text (Ok tape) = shop_text dialect forms text tape (steps_in dialect forms text tape)
+plain_by_commas dialect forms text (Err fault) = Err (Unreadable fault)
+
+-- the text of a tape that was read as it stands, without its statements that print or write a file; one
+-- that was not may have words after commas
+abbrev pub plain_by_quiet : Dialect → FormSettings → List ℕ → Result (List Program) TextFault → Result (List ℕ) PlainTapeFault
+plain_by_quiet dialect forms quiet (Ok tape) = own_text dialect forms quiet tape (steps_in dialect forms quiet tape)
+plain_by_quiet dialect forms quiet (Err fault) = plain_by_commas dialect forms quiet (comma_tape quiet)
+
+abbrev pub plain_quiet : Dialect → FormSettings → List ℕ → Result (List ℕ) PlainTapeFault
+plain_quiet dialect forms quiet = plain_by_quiet dialect forms quiet (tape_of 0 quiet)
+
+-- the text of a tape that was read as it stands; one that was not may have statements that print or
+-- write a file
+abbrev pub plain_by_reading : Dialect → FormSettings → List ℕ → Result (List Program) TextFault → Result (List ℕ) PlainTapeFault
+plain_by_reading dialect forms text (Ok tape) = own_text dialect forms text tape (steps_in dialect forms text tape)
+plain_by_reading dialect forms text (Err fault) = plain_quiet dialect forms (without_outputs text)
 
 -- The text of a tape in the language that this control runs: a line whose block is one of it stays
 -- byte for byte, and any other gives way to plain blocks, of which the first has its comments; or its
--- refusal.
-abbrev pub plain_of : Dialect → FormSettings → List ℕ → Result (List ℕ) PlainTapeFault
-plain_of dialect forms text = plain_lines text (steps_in dialect forms text)
+-- refusal. No block is skipped. A statement that prints or writes a file becomes a comment.
+unfoldable pub plain_of : Dialect → FormSettings → List ℕ → Result (List ℕ) PlainTapeFault
+plain_of dialect forms text = plain_by_reading dialect forms text (tape_of 0 text)
 
 -- how a tape is read, as the settings say
 abbrev pub dialect_in : Cell → Dialect

@@ -4,6 +4,7 @@
 //! control's language gives way to plain blocks; all other lines stay byte for byte.
 #![tactic(auto)]
 
+mod again;
 mod block_text;
 mod comments;
 mod draft;
@@ -11,6 +12,7 @@ mod fault;
 mod law;
 mod noting;
 mod plain;
+mod rules;
 
 pub use fault::PlainTapeFault;
 pub use plain::{plain_tape, plain_text};

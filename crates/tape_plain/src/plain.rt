@@ -1,102 +1,30 @@
 //! A tape written out, or why it is refused: read (comma_words), what becomes of its blocks found
-//! (plain_blocks) and sized, and put together.
-ghost use Rattle.std.specs.Prelude.{◌≡◌, ◌<◌, ◌^◌, length, IfOk, All};
-ghost use Rattle.std.specs.List.{list_any};
+//! (plain_blocks) and sized, put together, and read again.
+ghost use Rattle.std.specs.Prelude.{◌≡◌, ◌<◌, ◌^◌, length, All};
 ghost use Rattle.nc_number.specs.Answers.{Gives};
 ghost use Rattle.cell_settings.specs.Cell.{settings_of};
-ghost use Rattle.nc_text.specs.Lines.{lines_of};
-ghost use Rattle.line_edits.specs.Splice.{edited_lines};
+ghost use Rattle.nc_text.specs.Tape.{tape_of};
+ghost use Rattle.comma_words.specs.Reading.{comma_tape};
 ghost use Rattle.plain_blocks.specs.Order.{HasNumber};
-ghost use Rattle.tape_plain.specs.Comments.{comments_of};
-ghost use Rattle.tape_plain.specs.Draft.{edits_of};
-ghost use Rattle.tape_plain.specs.Plain.{is_ways, has_ways, is_absolute, dialect_in, plain_by, plain_text, known_anywhere, rules_of, sized_steps, steps_by_rules, steps_of_commas, steps_in, plain_of};
+ghost use Rattle.tape_plain.specs.Plain.{dialect_in, plain_by, plain_text, sized_steps, steps_by_rules, steps_in, written_text, shop_text, own_text, plain_by_commas, plain_quiet, plain_of};
+ghost use Rattle.output_lines.specs.Lines.{without_outputs};
 
+use crate::again::{all_kept, checked};
 use crate::comments::comments_of;
 use crate::draft::{edits_of, size_of};
 use crate::fault::PlainTapeFault;
-use crate::noting::skips_of;
+use crate::rules::rules_of;
 use block_forms::Dialect;
 use cell_settings::read_settings;
-use code_tables::System;
 use comma_words::{comma_tape, read_tape};
 use form_lines::{cell_text, read_choices};
-use known_blocks::Known;
 use line_edits::edited;
-use nc_number::{Failing, NoMemory};
-use nc_text::{Body, Program};
-use plain_blocks::{MarkList, Rules, StepList, written_tape};
-use plain_form::{FormSettings, has_code};
+use nc_number::Failing;
+use nc_text::Program;
+use output_lines::without_outputs;
+use plain_blocks::{Rules, StepList, written_tape};
+use plain_form::FormSettings;
 use std::alloc::Global;
-
-/// Whether the words have G91, which makes lengths ways.
-fn is_ways(body: &Body) -> bool
-    ensures { result ≡ is_ways body.now }
-{
-    match body {
-        Body::Words(words) => has_code(words.as_slice(), 91_000_000),
-        Body::Statement(_) => false,
-    }
-}
-
-/// Whether a block of a program has G91.
-fn has_ways(program: &Program) -> bool
-    ensures { result ≡ has_ways program.now }
-{
-    let blocks = program.blocks.as_slice();
-    blocks.iter().any(|block| is_ways(&block.body))
-}
-
-/// Whether a program of a tape has a block with G91.
-fn some_ways(tape: &[Program]) -> bool
-    ensures { result ≡ list_any has_ways tape.now }
-{
-    tape.iter().any(|program| has_ways(program))
-}
-
-/// Whether X and Z are where a block goes on the whole tape: system A has no G91, and a tape of
-/// system B may have none.
-fn is_absolute(system: System, tape: &[Program]) -> bool
-    ensures { result ≡ is_absolute system tape.now }
-{
-    match system {
-        System::A => true,
-        System::B => !some_ways(tape),
-    }
-}
-
-/// What is known before every block of a tape: lengths are places if they can be nothing else.
-fn known_anywhere(system: System, tape: &[Program]) -> Known
-    ensures { result ≡ known_anywhere system tape.now }
-{
-    let nothing = Known::nothing();
-    if is_absolute(system, tape) {
-        Known {
-            incremental: Some(false),
-            ..nothing
-        }
-    } else {
-        nothing
-    }
-}
-
-/// What holds over the whole tape.
-fn rules_of(
-    alloc: Global,
-    dialect: &Dialect,
-    forms: FormSettings,
-    text: &[u8],
-    tape: &[Program],
-) -> Result<Rules, NoMemory>
-    ensures { IfOk result (λ rules. rules ≡ rules_of dialect.now forms text.now tape.now) }
-{
-    let skips = skips_of(alloc, text)?;
-    Ok(Rules {
-        dialect: *dialect,
-        settings: forms,
-        anywhere: known_anywhere(dialect.system, tape),
-        skips: MarkList::of(skips),
-    })
-}
 
 /// These steps, if a tape has at most 20,000 blocks with them.
 fn sized(all: Vec<StepList>) -> Result<Vec<StepList>, Failing<PlainTapeFault>>
@@ -125,77 +53,137 @@ fn steps_by_rules(
     }
 }
 
-/// The same of a tape that was read from this text.
-fn steps_of_tape(
+/// The text with what becomes of the blocks of its tape, if it reads as that.
+fn written(
+    alloc: Global,
+    rules: Rules,
+    text: &[u8],
+    tape: &[Program],
+    all: &[StepList],
+) -> Result<Vec<u8>, Failing<PlainTapeFault>>
+    ensures { Gives (λ bytes. bytes.items) result
+        (written_text rules.dialect rules.settings text.now tape.now all.now) }
+{
+    let comments = comments_of(alloc, text)?;
+    let edits = edits_of(alloc, &comments, all)?;
+    let bytes = edited(alloc, text, &edits)?;
+    match checked(alloc, rules, tape, all, &edits, bytes) {
+        Ok(bytes) => Ok(bytes),
+        Err(fault) => Err(fault),
+    }
+}
+
+/// The text of a tape that was read from this one with words after commas.
+fn shop_text(
     alloc: Global,
     dialect: &Dialect,
     forms: FormSettings,
     text: &[u8],
     tape: &[Program],
-) -> Result<Vec<StepList>, Failing<PlainTapeFault>>
+) -> Result<Vec<u8>, Failing<PlainTapeFault>>
     requires { All HasNumber tape.now }
-    ensures { Gives (λ all. all.items) result
-        (steps_by_rules (rules_of dialect.now forms text.now tape.now) tape.now) }
+    ensures { Gives (λ bytes. bytes.items) result
+        (shop_text dialect.now forms text.now tape.now (steps_in dialect.now forms text.now tape.now)) }
 {
     let rules = rules_of(alloc, dialect, forms, text, tape)?;
-    match steps_by_rules(alloc, &rules, tape) {
-        Ok(all) => Ok(all),
+    let all = match steps_by_rules(alloc, &rules, tape) {
+        Ok(all) => all,
+        Err(fault) => return Err(fault),
+    };
+    match written(alloc, rules, text, tape, &all) {
+        Ok(bytes) => Ok(bytes),
         Err(fault) => Err(fault),
     }
 }
 
-/// What becomes of the blocks of a text in which words may stand after commas, or why it is refused.
-fn steps_of_commas(
+/// The text of a tape that was read from this one as it stands: the text itself, if all blocks stay.
+fn own_text(
     alloc: Global,
     dialect: &Dialect,
     forms: FormSettings,
     text: &[u8],
-) -> Result<Vec<StepList>, Failing<PlainTapeFault>>
-    ensures { Gives (λ all. all.items) result (steps_of_commas dialect.now forms text.now) }
+    tape: &[Program],
+) -> Result<Vec<u8>, Failing<PlainTapeFault>>
+    requires { All HasNumber tape.now }
+    ensures { Gives (λ bytes. bytes.items) result
+        (own_text dialect.now forms text.now tape.now (steps_in dialect.now forms text.now tape.now)) }
+{
+    let rules = rules_of(alloc, dialect, forms, text, tape)?;
+    let all = match steps_by_rules(alloc, &rules, tape) {
+        Ok(all) => all,
+        Err(fault) => return Err(fault),
+    };
+    if all_kept(&all) {
+        let bytes = Vec::from_slice(alloc, text)?;
+        return Ok(bytes);
+    }
+    match written(alloc, rules, text, tape, &all) {
+        Ok(bytes) => Ok(bytes),
+        Err(fault) => Err(fault),
+    }
+}
+
+/// The text of a tape in which words may stand after commas, or why it is refused.
+fn comma_text(
+    alloc: Global,
+    dialect: &Dialect,
+    forms: FormSettings,
+    text: &[u8],
+) -> Result<Vec<u8>, Failing<PlainTapeFault>>
+    ensures { Gives (λ bytes. bytes.items) result (plain_by_commas dialect.now forms text.now (comma_tape text.now)) }
 {
     match comma_tape(alloc, text) {
-        Ok(tape) => steps_of_tape(alloc, dialect, forms, text, &tape),
+        Ok(tape) => shop_text(alloc, dialect, forms, text, &tape),
         Err(Failing::Fault(fault)) => Err(Failing::Fault(PlainTapeFault::Unreadable(fault))),
         Err(Failing::NoMemory) => Err(Failing::NoMemory),
     }
 }
 
-/// What becomes of the blocks of a text, or why it is refused: one that reads as it stands has no word
-/// after a comma.
-#[tactic(auto, unfolding(crate::specs::Plain::steps_in))]
-fn steps_in(
+/// The text of a tape without statements that print or write a file, or why it is refused: one that
+/// reads as it stands has no word after a comma.
+fn quiet_text(
     alloc: Global,
     dialect: &Dialect,
     forms: FormSettings,
-    text: &[u8],
-) -> Result<Vec<StepList>, Failing<PlainTapeFault>>
-    ensures { Gives (λ all. all.items) result (steps_in dialect.now forms text.now) }
+    quiet: &[u8],
+) -> Result<Vec<u8>, Failing<PlainTapeFault>>
+    ensures { Gives (λ bytes. bytes.items) result (plain_quiet dialect.now forms quiet.now) }
 {
-    match read_tape(alloc, text) {
-        Ok(tape) => steps_of_tape(alloc, dialect, forms, text, tape.as_slice()),
-        Err(Failing::Fault(_)) => steps_of_commas(alloc, dialect, forms, text),
+    match read_tape(alloc, quiet) {
+        Ok(tape) => own_text(alloc, dialect, forms, quiet, tape.as_slice()),
+        Err(Failing::Fault(_)) => comma_text(alloc, dialect, forms, quiet),
         Err(Failing::NoMemory) => Err(Failing::NoMemory),
     }
 }
 
-/// The text with these steps taken.
-fn written(alloc: Global, text: &[u8], all: &[StepList]) -> Result<Vec<u8>, NoMemory>
-    ensures { IfOk result (λ bytes. bytes.items ≡ edited_lines 1 (edits_of (comments_of text.now) all.now) (lines_of text.now)) }
+/// The text of a tape that may have such statements, or why it is refused.
+fn loud_text(
+    alloc: Global,
+    dialect: &Dialect,
+    forms: FormSettings,
+    text: &[u8],
+) -> Result<Vec<u8>, Failing<PlainTapeFault>>
+    ensures { Gives (λ bytes. bytes.items) result (plain_quiet dialect.now forms (without_outputs text.now)) }
 {
-    let comments = comments_of(alloc, text)?;
-    let edits = edits_of(alloc, &comments, all)?;
-    let bytes = edited(alloc, text, &edits)?;
-    Ok(bytes)
+    let quiet = without_outputs(alloc, text)?;
+    match quiet_text(alloc, dialect, forms, &quiet) {
+        Ok(bytes) => Ok(bytes),
+        Err(fault) => Err(fault),
+    }
 }
 
 /// The text of a tape in the language that this control runs: a line whose block is one of it stays
 /// byte for byte, and any other gives way to plain blocks, each with the line's number as a comment. The
-/// comments of such a line stand with the first of its blocks.
+/// comments of such a line stand with the first of its blocks. A statement that prints or writes a file
+/// (DPRNT, BPRNT, POPEN, PCLOS, SETVN) becomes a comment.
 ///
-/// Errors: the refusal of a text that reads as no tape, with no block skipped and its words after commas
-/// (`,C`, `,R`, `,A`) allowed; else 96 at the block
+/// Errors: the refusal of a text that reads as no tape, with no block skipped, its words after commas
+/// (`,C`, `,R`, `,A`) and those statements allowed; else 96 at the block
 /// that can't be written out, or that breaks its form; else 94 at the line with whose blocks the
-/// tape has more than 20,000.
+/// tape has more than 20,000; else that of the text that was written, at the line of the tape for which
+/// its line stands, where it does not read as what should stand there, or would not stay if it was
+/// written out again: such as 15 where a line is too long with its comments.
+#[tactic(auto, unfolding(crate::specs::Plain::plain_of))]
 pub fn plain_tape(
     alloc: Global,
     dialect: &Dialect,
@@ -204,12 +192,11 @@ pub fn plain_tape(
 ) -> Result<Vec<u8>, Failing<PlainTapeFault>>
     ensures exact { Gives (λ bytes. bytes.items) result (plain_of dialect.now forms text.now) }
 {
-    let all = match steps_in(alloc, dialect, forms, text) {
-        Ok(all) => all,
-        Err(fault) => return Err(fault),
-    };
-    let bytes = written(alloc, text, &all)?;
-    Ok(bytes)
+    match read_tape(alloc, text) {
+        Ok(tape) => own_text(alloc, dialect, forms, text, tape.as_slice()),
+        Err(Failing::Fault(_)) => loud_text(alloc, dialect, forms, text),
+        Err(Failing::NoMemory) => Err(Failing::NoMemory),
+    }
 }
 
 /// The text of a tape in the language that this control runs, as the lines of the cell say that it

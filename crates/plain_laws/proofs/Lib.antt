@@ -1,0 +1,3 @@
+-- The lemmas of the laws.
+mod KeptTapes
+mod Rereading

@@ -1,0 +1,2 @@
+-- What the laws say of a text that was written.
+pub mod Written

@@ -1,0 +1,3 @@
+-- The lemmas of the law.
+mod InPlace
+mod Walking
