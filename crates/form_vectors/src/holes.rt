@@ -87,7 +87,8 @@ fn system_b_names_the_level(rt: HostRuntime) -> Result<(), Fail> {
 #[test]
 fn another_code_goes_on_with_the_run(rt: HostRuntime) -> Result<(), Fail> {
     let scene = standing(50_000, 5_000, System::B);
-    let wanted = "[ G00X20.000 G00Z2.000 G01Z-6.000F0.1 G00Z2.000][ G00X10.000 G00Z2.000 G01Z-7.000F1 M4 G01Z2.000F1 M3 G00][ G00X5.000 G00Z2.000 G01Z-7.000F1 G01Z2.000F1 G00Z5.000]";
+    let wanted =
+        "[ G00X20.000 G00Z2.000 G01Z-6.000F0.1 G00Z2.000][ G00X10.000 G00Z2.000 G01Z-7.000F1 M4 G01Z2.000F1 M3 G00][ G00X5.000 G00Z2.000 G01Z-7.000F1 G01Z2.000F1 G00Z5.000]";
     let lines = "G99 G83 X20. Z-6. R-3. F0.1|G84 X10. Z-7. F1.|G98 G85 X5.|G80";
     assert!(rt; is_answer(rt.alloc(), lines, &scene, wanted)?);
     let scene = standing(50_000, 5_000, System::A);

@@ -7,12 +7,7 @@ use nc_text::{Block, Body, Program};
 use plain_blocks::{Step, StepList};
 
 /// The place behind the block in this one, if that has this sequence number and says this.
-fn behind_block(
-    again: &[Block],
-    at: usize,
-    sequence: Option<u32>,
-    body: &Body,
-) -> Option<usize>
+fn behind_block(again: &[Block], at: usize, sequence: Option<u32>, body: &Body) -> Option<usize>
     ensures { result ≡ behind_block again.now at sequence body.now }
 {
     match again.get(at) {
