@@ -1,5 +1,6 @@
 #!/usr/bin/env python3
 """rough_reading.py lines|moves TEXT [DEPTH RETREAT]: what G71, G72, G73 and G70 are due to be written out as, worked out apart from the program.
+rough_reading.py random SEED: the text of a contour with pockets, its roughing and its finish, by chance.
 
 TEXT has the blocks of a tape from line 3 on, with | for a line feed. `lines` prints them with the cycles written out, `moves` the moves of a
 run of that, both with | for a line feed. It reads what the rows of plain_rows have, in system A, and no more. DEPTH and RETREAT are those of the settings.
@@ -7,6 +8,7 @@ run of that, both with | for a line feed. It reads what the rows of plain_rows h
 Everything is counted in half thousandths: X as a diameter stands, Z and radius values twice, so that a circle is one."""
 import decimal
 import math
+import random
 import re
 import sys
 
@@ -56,6 +58,9 @@ class Block:
 
     def moves(self):
         return any(letter in self.said for letter in "XZUW")
+
+    def names_both(self):
+        return any(letter in self.said for letter in "XU") and any(letter in self.said for letter in "ZW")
 
 
 class Piece:
@@ -107,10 +112,15 @@ def contour_of(blocks, begin, last, start):
 class Sight:
     """How the contour is seen: across the passes it rises, along them they lead to lesser lengths."""
 
-    def __init__(self, turning, first, last, start):
+    def __init__(self, turning, first, pieces, start, both):
         self.turning = turning
         across, along = (0, 1) if turning else (1, 0)
+        last = pieces[-1].end
         rises = last[across] > first[across] or last[across] == first[across] and start[across] >= first[across]
+        if both:
+            # (it may rise and fall: it is seen from the start, if all of it lies on one side of that)
+            places = [first[across]] + [piece.end[across] for piece in pieces]
+            rises = max(places) <= start[across] or min(places) < start[across] and rises
         falls = last[along] < first[along] or last[along] == first[along] and start[along] >= first[along]
         self.across, self.along = 1 if rises else -1, 1 if falls else -1
 
@@ -155,6 +165,75 @@ def is_inside(sight, pieces, u, w, place):
     return held
 
 
+def has_pockets(sight, pieces):
+    """Whether the contour falls somewhere as it is seen."""
+    return any(sight.seen(it.end)[0] < sight.seen(it.start)[0] for it in pieces)
+
+
+def is_free(sight, piece, u, w, place):
+    """Whether the place, which the piece holds along, is not below it, of the contour moved by u and w."""
+    p, q = ((a + u, b + w) for a, b in (sight.seen(piece.start), sight.seen(piece.end)))
+    (a, b), (pa, pb), (qa, qb) = sight.halves(*place), sight.halves(*p), sight.halves(*q)
+    centre = None
+    if piece.offset is not None:
+        i, k = piece.offset
+        ca, cb = (2 * i, 2 * k) if sight.turning else (2 * k, 2 * i)
+        centre = pa + sight.across * ca, pb + sight.along * cb
+    if qa < pa:
+        # (it falls: its mirror image along the passes rises from its end)
+        (pa, pb), (qa, qb), b = (qa, -qb), (pa, -pb), -b
+        centre = centre and (centre[0], -centre[1])
+    if centre is None:
+        return not ((a - pa) * (pb - qb) < (qa - pa) * (pb - b) if pb > qb else a < pa)
+    far = [(x - centre[0]) ** 2 + (y - centre[1]) ** 2 for x, y in ((pa, pb), (qa, qb))]
+    if centre[0] <= pa:
+        return not (a < pa or max(a - centre[0], 0) ** 2 + max(b - centre[1], 0) ** 2 < max(far))
+    return not (a < pa or a < qa and max(centre[0] - a, 0) ** 2 + max(centre[1] - b, 0) ** 2 > min(far))
+
+
+def nearest(free, begin, end):
+    """The place farthest from begin towards end up to which all are free; None if begin is not."""
+    if not free(begin):
+        return None
+    step = 1 if end > begin else -1
+    low, high = 0, abs(end - begin)
+    while low < high:
+        middle = (low + high + 1) // 2
+        if free(begin + step * middle):
+            low = middle
+        else:
+            high = middle - 1
+    return begin + step * low
+
+
+def gaps(sight, pieces, u, w, level, begin):
+    """The stretches along in which a pass of this level may cut, each from its begin to its end; one is open before the contour from there."""
+    found, left = [], begin
+    for piece in pieces:
+        p, q = sight.seen(piece.start), sight.seen(piece.end)
+        high, low = p[1] + w, q[1] + w
+        free = lambda place: is_free(sight, piece, u, w, (level, place))
+        if q[0] < p[0]:
+            opens = nearest(free, low, high)
+            if left is not None and opens == high:
+                continue
+            if left is not None:
+                found.append((left, high))
+            left = opens
+        else:
+            if left is None and free(high):
+                left = high
+            if left is not None:
+                ends = nearest(free, high, low)
+                # (a wall that rises past the level shuts the stretch, though no point of its foot lies below it)
+                if ends != low or not free(low) or q[0] + u > level:
+                    found.append((left, high if ends is None else ends))
+                    left = None
+    if left is not None:
+        found.append((left, sight.seen(pieces[-1].end)[1] + w))
+    return found
+
+
 def last_free(sight, first, pieces, u, w, level):
     """The least place along at which a pass of this level, which comes from above, is in no contour yet."""
     high, low = sight.seen(first)[1] + w, sight.seen(pieces[-1].end)[1] + w
@@ -197,6 +276,26 @@ def roughed(sight, start, first, pieces, depth, retreat, u, w, enters, feed):
         found.append((1, *sight.told(along=end), None, feed, None))
         found.append((0, *sight.told(level + across * retreat, min(end + along * retreat, begin[1])), None, None, None))
         found.append((0, *sight.told(along=begin[1]), None, None, None))
+        k += 1
+    return found + contour_blocks(sight, start, first, pieces, u, w, enters, [(feed, None)] * (len(pieces) + 2))
+
+
+def pocketed(sight, start, first, pieces, depth, retreat, u, w, enters, feed):
+    """The passes over a contour that rises and falls: at each level its stretches in turn, each from above."""
+    begin, found, k = sight.seen(start), [], 1
+    across, along = (2, 1) if sight.turning else (1, 2)
+    top, high = sight.seen(first)[0] + u, sight.seen(first)[1] + w
+    lowest = min(sight.seen(it)[0] for it in [first] + [piece.end for piece in pieces]) + u
+    while (level := begin[0] - across * depth * k) > lowest:
+        for opens, ends in gaps(sight, pieces, u, w, level, begin[1] if top <= level else None):
+            ends = ends if ends < high else high + 1
+            if ends < opens:
+                found.append((0, *sight.told(along=opens), None, None, None))
+                found.append((0, *sight.told(across=level + across * depth), None, None, None))
+                found.append((1, *sight.told(across=level), None, feed, None))
+                found.append((1, *sight.told(along=ends), None, feed, None))
+                found.append((0, *sight.told(level + across * retreat, min(ends + along * retreat, opens)), None, None, None))
+                found.append((0, *sight.told(across=begin[0]), None, None, None))
         k += 1
     return found + contour_blocks(sight, start, first, pieces, u, w, enters, [(feed, None)] * (len(pieces) + 2))
 
@@ -256,19 +355,20 @@ def read(text, depth=None, retreat="500"):
         enters = next(c for c in entry.codes if c in (0, 1))
         if cycle == 70:
             caller = blocks[begin - 1]
-            sight = Sight(72 not in caller.codes, first, pieces[-1].end, at)
+            sight = Sight(72 not in caller.codes, first, pieces, at, entry.names_both())
             feed = entry.said.get("F", call.said.get("F"))
             feeds = [(feed, entry.said.get("S"))] + [(piece.feed or feed, piece.speed) for piece in pieces]
             found = contour_blocks(sight, at, first, pieces, 0, 0, enters, feeds + [(feeds[-1][0], None)])
             n += 1
         else:
-            sight = Sight(cycle != 72, first, pieces[-1].end, at)
+            sight = Sight(cycle != 72, first, pieces, at, entry.names_both())
             u, w = counts(call.said.get("U", "0")), counts(call.said.get("W", "0"))
             u, w = sight.seen((u, w))
             if cycle == 73:
                 found = pattern(sight, at, first, pieces, it.said, u, w, enters, call.said.get("F"))
             else:
-                found = roughed(sight, at, first, pieces, counts(depth), counts(own), u, w, enters, call.said.get("F"))
+                cut = pocketed if entry.names_both() and has_pockets(sight, pieces) else roughed
+                found = cut(sight, at, first, pieces, counts(depth), counts(own), u, w, enters, call.said.get("F"))
             n = end + 1
         said = [line_of(block) for block in found] + ["G01"] * (motion == 1)
         if "S" in call.said:
@@ -294,6 +394,64 @@ def moves_of(done):
     return said
 
 
+def random_text(seed):
+    """A contour that rises and falls over lines and quarters of circles, turned or faced, outside or inside, either way along."""
+    chance = random.Random(seed)
+    turning, side, way = chance.random() < 0.6, chance.choice((1, -1)), chance.choice((1, -1))
+    wide, long = (2, 1) if turning else (1, 2)
+    a, b = side * 50000 if side > 0 else -90000, 0
+    first, steps, top = (a + chance.randrange(0, 12000), b - chance.randrange(0, 3000)), [], 0
+    at = first
+    for _ in range(chance.randrange(3, 10)):
+        up, r = chance.choice((1, -1)), chance.randrange(200, 5000)
+        kind = chance.choice(("line", "line", "wall", "flat", "round", "hollow"))
+        if kind in ("round", "hollow"):
+            to = at[0] + up * wide * r, at[1] - long * r
+            # (the centre lies beside the one end and below or above the other)
+            beside = (kind == "hollow") == (up > 0)
+            steps.append((3 if kind == "round" else 2, to, (up * r, 0) if beside else (0, -r)))
+        else:
+            across = 0 if kind == "flat" else up * chance.randrange(1, 16000)
+            along = 0 if kind == "wall" else chance.randrange(1, 12000)
+            to = at[0] + across, at[1] - along
+            steps.append((1, to, None))
+        at = to
+    places = [first] + [to for _, to, _ in steps]
+    if all(q[0] >= p[0] for p, q in zip(places, places[1:])):
+        to = at[0] - 4000, at[1] - 3001
+        steps.append((1, to, None))
+        places.append(to)
+    u = chance.randrange(0, 900)
+    start = max(place[0] for place in places) + u + chance.randrange(0, 5000), first[1] + chance.choice((0, chance.randrange(0, 4000)))
+
+    def told(place):
+        across, along = side * place[0], way * place[1]
+        return (across, along) if turning else (along, across)
+
+    def said(place):
+        x, z = told(place)
+        return f"X{shown(x)} Z{shown(z)}"
+
+    flips = (side < 0) ^ (way < 0) ^ (not turning)
+    depth, letters = chance.randrange(300, 4000), ("U", "W") if turning else ("W", "U")
+    code = 71 if turning else 72
+    lines = [f"G00 {said(start)}", f"G{code} {letters[0]}{shown(depth)} R0.3"]
+    lines.append(f"G{code} P10 Q20 {letters[0]}{shown(side * u)} {letters[1]}0 F0.2")
+    lines.append(f"N10 G0{chance.choice((0, 1))} {said(first)}")
+    for n, (kind, to, centre) in enumerate(steps):
+        number = "N20 " if n == len(steps) - 1 else ""
+        if centre is None:
+            lines.append(f"{number}G01 {said(to)}")
+        else:
+            i, k = (side * centre[0], way * centre[1]) if turning else (way * centre[1], side * centre[0])
+            sense = {2: 3, 3: 2}[kind] if flips else kind
+            lines.append(f"{number}G0{sense} {said(to)} I{shown(i)} K{shown(k)}")
+    return "|".join(lines + ["G70 P10 Q20 F0.1"]) + "|"
+
+
 if __name__ == "__main__":
+    if sys.argv[1] == "random":
+        print(random_text(int(sys.argv[2])))
+        sys.exit()
     written, run = read(*sys.argv[2:])
     print("|".join(written if sys.argv[1] == "lines" else moves_of(run)) + "|" * (sys.argv[1] == "lines"))

@@ -210,7 +210,7 @@ over_begin d p edges at falls free right up s e =
 -- what the inner edges enclose, the outer ones do
 
 -- an edge of the contour, from inner to outer
-wider : (way : Way) (d : ℕ) (p : Point) (clockwise : Bool) (q c at : Point) → is_below_curved way (not clockwise) (in_parts d p) (in_parts d q) (in_parts d c) (d * d * (arc_square way Inner clockwise p q c)) at ≡ true
+pub wider : (way : Way) (d : ℕ) (p : Point) (clockwise : Bool) (q c at : Point) → is_below_curved way (not clockwise) (in_parts d p) (in_parts d q) (in_parts d c) (d * d * (arc_square way Inner clockwise p q c)) at ≡ true
     → is_below_curved way (not clockwise) (in_parts d p) (in_parts d q) (in_parts d c) (d * d * (arc_square way Outer clockwise p q c)) at ≡ true
 wider way d p true q c at e = hollow_more way (in_parts d p) (in_parts d q) (in_parts d c) at _ _ (mul-le-mul_left (d * d) less) e
   where

@@ -35,7 +35,7 @@ pub fn is_taken(way: Way, p: &Point, piece: &Piece) -> bool
 }
 
 /// Whether the ends of an arc lie equally far from its centre, within the tolerance.
-fn ends_met(way: Way, p: &Point, q: &Point, c: &Point) -> bool
+pub fn ends_met(way: Way, p: &Point, q: &Point, c: &Point) -> bool
     requires p { IsNear p.now }
     requires q { IsNear q.now }
     requires c { IsNear c.now }
@@ -63,7 +63,7 @@ fn is_past_tolerance(far: u128, near: u128) -> bool
 }
 
 /// Whether an arc goes past its quadrant by no more than 0.001 mm: by the circle of its outer bound.
-fn is_quadrant(way: Way, clockwise: bool, p: &Point, q: &Point, c: &Point) -> bool
+pub fn is_quadrant(way: Way, clockwise: bool, p: &Point, q: &Point, c: &Point) -> bool
     requires p { IsPlaced p.now }
     requires q { IsPlaced q.now }
     requires c { IsNear c.now }

@@ -83,7 +83,7 @@ pub(crate) fn square_between(way: Way, a: &Point, b: &Point) -> u128
 }
 
 /// The centre of an arc, from its start and I and K.
-pub(crate) fn centre_of(way: Way, p: &Point, i: i64, k: i64) -> Point
+pub fn centre_of(way: Way, p: &Point, i: i64, k: i64) -> Point
     requires p { IsPlaced p.now }
     requires i { unsigned_abs i ≤ LONGEST_SAID }
     requires k { unsigned_abs k ≤ LONGEST_SAID }
@@ -145,14 +145,7 @@ fn hollow_square(way: Way, bound: &Bound, p: &Point, q: &Point, c: &Point) -> u1
 }
 
 /// The square of the radius of an arc.
-pub(crate) fn arc_square(
-    way: Way,
-    bound: &Bound,
-    clockwise: bool,
-    p: &Point,
-    q: &Point,
-    c: &Point,
-) -> u128
+pub fn arc_square(way: Way, bound: &Bound, clockwise: bool, p: &Point, q: &Point, c: &Point) -> u128
     requires p { IsNear p.now }
     requires q { IsNear q.now }
     requires c { IsNear c.now }
@@ -168,10 +161,11 @@ pub(crate) fn arc_square(
 
 /// The edge that a piece from p makes.
 #[tactic(auto, unfolding(crate::specs::Bounds::IsPieceWithin, crate::specs::Bounds::IsNearEdge))]
-fn edge_of(way: Way, bound: &Bound, p: &Point, piece: &Piece) -> Edge
+pub fn edge_of(way: Way, bound: &Bound, p: &Point, piece: &Piece) -> Edge
     requires p { IsPlaced p.now }
     requires piece { IsPieceWithin 200000000000 piece.now }
     ensures edge { result ≡ edge_of way bound.now p.now piece.now }
+    ensures ends { edge_to result ≡ to_of piece.now }
     ensures near { IsNearEdge result }
 {
     match *piece {
@@ -208,7 +202,7 @@ pub fn to_of(piece: &Piece) -> Point
 
 /// Where an edge ends.
 #[tactic(auto, unfolding(crate::specs::Bounds::IsNearEdge))]
-fn edge_to(edge: &Edge) -> Point
+pub fn edge_to(edge: &Edge) -> Point
     ensures to { result ≡ edge_to edge.now }
     ensures near { IsNearEdge edge.now → IsNear result }
 {
@@ -293,7 +287,7 @@ fn holds(p: &Point, q: &Point, z: i64) -> bool
 
 /// Whether the point is strictly below an edge from p.
 #[tactic(auto, unfolding(crate::specs::Bounds::IsNearEdge))]
-fn is_below(p: &Point, edge: &Edge, at: &Point) -> bool
+pub fn is_below(p: &Point, edge: &Edge, at: &Point) -> bool
     requires p { IsNear p.now }
     requires edge { IsNearEdge edge.now }
     requires at { IsNear at.now }
@@ -408,7 +402,7 @@ pub fn end_at(x: i64, first: &Point, edges: &[Edge]) -> i64
 
 /// Whether a pass at x passes over the whole edge.
 #[tactic(auto, unfolding(crate::specs::Bounds::IsNearEdge))]
-fn is_passed(x: i64, p: &Point, edge: &Edge) -> bool
+pub fn is_passed(x: i64, p: &Point, edge: &Edge) -> bool
     requires far { unsigned_abs x ≤ 1000000000000 }
     requires p { IsNear p.now }
     requires edge { IsNearEdge edge.now }
@@ -432,7 +426,7 @@ fn is_passed(x: i64, p: &Point, edge: &Edge) -> bool
 
 /// Where an edge from p comes to x, its Z rounded up.
 #[tactic(auto, unfolding(crate::specs::Bounds::IsNearEdge))]
-fn edge_end(x: i64, p: &Point, edge: &Edge) -> i64
+pub fn edge_end(x: i64, p: &Point, edge: &Edge) -> i64
     requires low { p.now.x ≤ℤ x }
     requires stops { is_passed x p.now edge.now ≡ false }
     requires far { unsigned_abs x ≤ 1000000000000 }
@@ -440,6 +434,7 @@ fn edge_end(x: i64, p: &Point, edge: &Edge) -> i64
     requires edge { IsNearEdge edge.now }
     ensures end { result ≡ edge_end x p.now edge.now }
     ensures near { unsigned_abs result ≤ 4000000000000 }
+    ensures placed { IsPlaced p.now → IsPlaced (edge_to edge.now) → unsigned_abs result ≤ 1000000000000 }
 {
     match *edge {
         Edge::Straight { to } => line_end(x, p, &to),
@@ -461,6 +456,7 @@ fn line_end(x: i64, p: &Point, q: &Point) -> i64
     requires q { IsNear q.now }
     ensures near { unsigned_abs result ≤ 4000000000000 }
     ensures end { result ≡ line_end x p.now q.now }
+    ensures placed { IsPlaced p.now → IsPlaced q.now → unsigned_abs result ≤ 1000000000000 }
 {
     p.z - share(p.z.abs_diff(q.z), x.abs_diff(p.x), q.x.abs_diff(p.x)) as i64
 }

@@ -10,8 +10,11 @@ mod law;
 mod piece;
 mod way;
 
-pub use circle::is_taken;
-pub use contour::{edges_of, end_at, inside, to_of};
+pub use circle::{ends_met, is_quadrant, is_taken};
+pub use contour::{
+    arc_square, centre_of, edge_end, edge_of, edge_to, edges_of, end_at, inside, is_below,
+    is_passed, to_of,
+};
 pub use edge::{Bound, Edge};
 pub use law::{an_end_is_the_least, the_bounds_are_one};
 pub use piece::Piece;

@@ -1,5 +1,6 @@
--- The contour that a cycle calls, read from its blocks. src/contour.rt reads it. 71 is the letter G.
-use Rattle.std.specs.Prelude.{ℕ, Bool, true, false, not, List, [], ◌∷◌, ◌++◌, All, codes, Option, Some, None, Result, Ok, Err, ℤ, pos, IfSome, if◌then◌else◌}
+-- The contour that a cycle calls, read from its blocks. src/contour.rt reads it. 71 is the letter G,
+-- 85 U, 87 W, 88 X, 90 Z.
+use Rattle.std.specs.Prelude.{ℕ, Bool, true, false, not, ◌&&◌, ◌||◌, List, [], ◌∷◌, ◌++◌, All, codes, Option, Some, None, Result, Ok, Err, ℤ, pos, IfSome, if◌then◌else◌}
 use Rattle.nc_number.specs.declared.limits.TheConstants.{LONGEST_SAID}
 use Rattle.nc_number.specs.declared.point.Point.{Point}
 use Rattle.nc_number.specs.Options.{is_some_of}
@@ -11,6 +12,7 @@ use Rattle.nc_text.specs.declared.tape.Block.{Block}
 use Rattle.arc_contour.specs.Bounds.{IsWritten, IsPieceWithin}
 use Rattle.plain_form.specs.declared.cause.PlainCause.TheVariants as cause
 use Rattle.plain_form.specs.declared.cause.PlainFault.{PlainFault}
+use Rattle.cycle_words.specs.Numbers.{is_said}
 use Rattle.cycle_words.specs.Scenes.{says_ends}
 use Rattle.rough_forms.specs.declared.entry.Entry.{Entry}
 use Rattle.rough_forms.specs.declared.entry.Entry.TheVariants as entry
@@ -38,6 +40,10 @@ abbrev pub motion_behind : Entry → Motion
 motion_behind entry.Rapid = Rapid
 motion_behind entry.Cut = Line
 
+-- whether the words name both axes: X, or U, and Z, or W
+abbrev pub names_both : List Word → Bool
+names_both words = (is_said 88 words || is_said 85 words) && (is_said 90 words || is_said 87 words)
+
 -- what the words of a contour's first block say: they name an axis
 unfoldable pub first_words : ℕ → List Word → Point → Result First PlainFault
 first_words line words start = do
@@ -45,7 +51,7 @@ first_words line words start = do
   enters ← entry_of line (motion_said words)
   point ← point_to line words start
   if says_ends words
-      then Ok (record { enters = enters; point = point; tempo = tempo_of words })
+      then Ok (record { enters = enters; point = point; names_both = names_both words; tempo = tempo_of words })
       else Err (fault line cause.Contour)
 
 -- what a contour's first block says; a statement is none

@@ -2,7 +2,7 @@
 ghost use Rattle.std.specs.Prelude.{◌≡◌, ◌++◌, ◌∷◌, [], All, IfOk, OnOk};
 ghost use Rattle.nc_number.specs.Options.{is_some_of};
 ghost use Rattle.arc_contour.specs.Bounds.{IsWritten};
-ghost use Rattle.contour_words.specs.Contours.{entry_of, motion_behind, first_words, first_of, block_step, line_of, lines_behind, with_lines, contour_of, IsNearLine, IsNearFirst, IsNearContour};
+ghost use Rattle.contour_words.specs.Contours.{entry_of, motion_behind, names_both, first_words, first_of, block_step, line_of, lines_behind, with_lines, contour_of, IsNearLine, IsNearFirst, IsNearContour};
 ghost use Rattle.contour_words.specs.Steps.{IsNearStep};
 
 use crate::causes::{fault, refuse, words_cause};
@@ -10,7 +10,7 @@ use crate::motion::{Motion, motion_said};
 use crate::step::{Step, point_to, step_of};
 use crate::tempo::{Tempo, tempo_of};
 use arc_contour::Piece;
-use cycle_words::says_ends;
+use cycle_words::{is_said, says_ends};
 use nc_number::{ListOf, Point};
 use nc_text::{Block, Body, Word};
 use plain_form::{PlainCause, PlainFault};
@@ -49,6 +49,8 @@ pub struct First {
     pub enters: Entry,
     /// Where it leads.
     pub point: Point,
+    /// Whether it names both axes: then the contour may rise and fall.
+    pub names_both: bool,
     /// The feed and the speed that it sets for the finish.
     pub tempo: Tempo,
 }
@@ -74,6 +76,13 @@ fn entry_of(line: u32, motion: Option<Motion>) -> Result<Entry, PlainFault>
     }
 }
 
+/// Whether the words name both axes, each by its length or by its way.
+fn names_both(words: &[Word]) -> bool
+    ensures { result ≡ names_both words.now }
+{
+    (is_said(words, b'X') || is_said(words, b'U')) && (is_said(words, b'Z') || is_said(words, b'W'))
+}
+
 /// What the words of a contour's first block say: they name an axis.
 #[tactic(auto, unfolding(crate::specs::Contours::first_words))]
 fn first_words(line: u32, words: &[Word], start: &Point) -> Result<First, PlainFault>
@@ -88,6 +97,7 @@ fn first_words(line: u32, words: &[Word], start: &Point) -> Result<First, PlainF
         Ok(First {
             enters,
             point,
+            names_both: names_both(words),
             tempo: tempo_of(words),
         })
     } else {

@@ -72,7 +72,7 @@ move_down way d p edges leg from falls free right level at on =
 -- along the contour
 
 -- a point on a piece of the contour is not below the piece's inner edge
-piece_clear : (way : Way) (d : ℕ) (p : Point) (piece : Piece) (at : Point) → p.x ≤ℤ (to_of piece).x → (to_of piece).z ≤ℤ p.z
+pub piece_clear : (way : Way) (d : ℕ) (p : Point) (piece : Piece) (at : Point) → p.x ≤ℤ (to_of piece).x → (to_of piece).z ≤ℤ p.z
     → MayPass way d p (piece_move piece).leg (to_of piece) at
     → is_below (in_parts d p) (edge_in_parts d (edge_of way Inner p piece)) at ≡ false
 piece_clear way d p (Line q) at rises falls on =
@@ -115,7 +115,7 @@ along_contour way d f all p (piece ∷ pieces) leads (rises, falls, later) = (
         no_or _ _ holds_it (piece_clear way d p piece at rises falls on) (first_below way d p piece (edges_of way Inner (to_of piece) pieces) at e).0
 
 -- blocks along the contour lead to its last point
-ends_at_last : (p : Point) (pieces : List Piece) → seen_after_all p (map piece_move pieces) ≡ last_of p pieces
+pub ends_at_last : (p : Point) (pieces : List Piece) → seen_after_all p (map piece_move pieces) ≡ last_of p pieces
 ends_at_last p [] = refl
 ends_at_last p (piece ∷ pieces) = ends_at_last (to_of piece) pieces
 
@@ -157,7 +157,7 @@ finish_clear d r start form at_start =
 -- the allowances
 
 -- a contour that descends does so with its allowances
-moved_descends : (u w : ℕ) (p : Point) (pieces : List Piece) → Descends p pieces → Descends (moved_point u w p) (moved_pieces u w pieces)
+pub moved_descends : (u w : ℕ) (p : Point) (pieces : List Piece) → Descends p pieces → Descends (moved_point u w p) (moved_pieces u w pieces)
 moved_descends u w p [] falls = tt
 moved_descends u w p (Line q ∷ pieces) (rises, falls, later) = (omega (arith, ints), omega (arith, ints), moved_descends u w q pieces later)
 moved_descends u w p (Arc clockwise q i k ∷ pieces) (rises, falls, later) = (omega (arith, ints), omega (arith, ints), moved_descends u w q pieces later)

@@ -16,7 +16,7 @@ use Rattle.rough_forms.specs.Roughing.{Rough}
 use Rattle.rough_forms.specs.Check.{or_else, step_fault, steps_fault, is_high, starts_well, passes_fault, start_fault, form_fault, IsSound}
 
 -- if neither of two is a fault
-no_other : (a b : Option FormFault) → or_else a b ≡ None → (a ≡ None) × (b ≡ None)
+pub no_other : (a b : Option FormFault) → or_else a b ≡ None → (a ≡ None) × (b ≡ None)
 no_other None b e = (refl, e)
 no_other (Some fault) b e = absurd (let wrong : Some fault ≡ None = e in cc)
 

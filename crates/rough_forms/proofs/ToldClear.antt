@@ -74,19 +74,19 @@ centre_seen Across f d clockwise from to at i k is =
     subst (λ c. IsOnArc Across d (way_point Across f from) (way_point Across f to) c (way_point Across f at)) centre (on_arc Across f d from to (centre_of Along from (signed f.along k) (signed f.across i)) at is)
 
 -- what a block may pass, its move may pass as it is seen
-passed : (f : Frame) (d : ℕ) (from : Point) (leg : Leg) (to at : Point) → CourseMayPass d from (told_course f leg) to at → MayPass f.way d (seen f from) leg (seen f to) (seen f at)
+pub passed : (f : Frame) (d : ℕ) (from : Point) (leg : Leg) (to at : Point) → CourseMayPass d from (told_course f leg) to at → MayPass f.way d (seen f from) leg (seen f to) (seen f at)
 passed f d from Rapid to at is = amid f.way f d from to at is
 passed f d from Cut to at is = on_line f.way f d from to at is
 passed f d from (Round clockwise i k) to at is = centre_seen f.way f d _ from to at i k is
 
 -- a block that is told moves as its course
-block_passed : (w : Way) (d : ℕ) (from : Point) (course : Course) (across along : Option ℤ) (at : Point) → BlockMayPass d from (told_move w course across along) at
+pub block_passed : (w : Way) (d : ℕ) (from : Point) (course : Course) (across along : Option ℤ) (at : Point) → BlockMayPass d from (told_move w course across along) at
     → CourseMayPass d from course (point_after from (told_move w course across along)) at
 block_passed Along d from course across along at is = is
 block_passed Across d from course across along at is = is
 
 -- where a block that is told leads, as it is seen
-leads : (w : Way) (f : Frame) (from : Point) (course : Course) (across along : Option ℤ) → way_point w f (point_after from (told_move w course (signed_if f.across across) (signed_if f.along along)))
+pub leads : (w : Way) (f : Frame) (from : Point) (course : Course) (across along : Option ℤ) → way_point w f (point_after from (told_move w course (signed_if f.across across) (signed_if f.along along)))
     ≡ seen_after (way_point w f from) (record { leg = Rapid; x = across; z = along })
 leads Along f from course across along = same_point _ _ (after_signed f.across across from.x) (after_signed f.along along from.z)
 leads Across f from course across along = same_point _ _ (after_signed f.across across from.z) (after_signed f.along along from.x)

@@ -25,6 +25,8 @@ pub enum FormFault {
     Start,
     /// There are more than 1,000 passes.
     Passes,
+    /// An allowance along the passes, over a contour that rises and falls: it would cut into a wall.
+    Allowance,
 }
 
 /// Why a piece from p belongs to no contour, if it does not.

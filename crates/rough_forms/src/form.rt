@@ -134,7 +134,7 @@ impl ContourForm {
     }
 
     /// The X of pass k.
-    fn x_of_pass(&self, k: u32) -> i64
+    pub fn x_of_pass(&self, k: u32) -> i64
         requires near { IsNearForm (rough_of self.now) }
         requires k { k ≤ TRIED }
         ensures x { result ≡ x_of_pass (rough_of self.now) k }
@@ -188,7 +188,7 @@ impl ContourForm {
 
     /// Puts the blocks to the contour's first point, along it, off it, and back to the start.
     #[tactic(auto, unfolding(crate::specs::Frames::IsSmallLeg))]
-    fn push_contour(
+    pub fn push_contour(
         &self,
         start: &Point,
         first: &Point,
@@ -211,7 +211,7 @@ impl ContourForm {
 }
 
 /// The lesser of two lengths: the second only if it is less.
-fn lesser(a: i64, b: i64) -> i64
+pub fn lesser(a: i64, b: i64) -> i64
     requires a { unsigned_abs a ≤ 500000000000000 }
     requires b { unsigned_abs b ≤ 500000000000000 }
     ensures lesser { result ≡ int_min a b }
@@ -221,7 +221,7 @@ fn lesser(a: i64, b: i64) -> i64
 }
 
 /// How far a radius value reaches in the lengths across the passes.
-fn across_of(way: Way, length: u64) -> u64
+pub fn across_of(way: Way, length: u64) -> u64
     requires { length ≤ LONGEST_SAID }
     ensures across { result ≡ across_of way length }
     ensures near { result ≤ 200000000000 }
@@ -233,7 +233,7 @@ fn across_of(way: Way, length: u64) -> u64
 }
 
 /// How far a radius value reaches in the lengths along the passes.
-fn along_of(way: Way, length: u64) -> u64
+pub fn along_of(way: Way, length: u64) -> u64
     requires { length ≤ LONGEST_SAID }
     ensures along { result ≡ along_of way length }
     ensures near { result ≤ 200000000000 }
@@ -246,7 +246,7 @@ fn along_of(way: Way, length: u64) -> u64
 
 /// The end of a pass that comes to a contour here, which begins there: a count before it, if it comes
 /// to it where it begins.
-fn end_before(here: i64, begins: i64) -> i64
+pub fn end_before(here: i64, begins: i64) -> i64
     requires here { unsigned_abs here ≤ 4000000000000 }
     requires begins { unsigned_abs begins ≤ 1000000000000 }
     ensures end { result ≡ end_before here begins }
@@ -256,7 +256,7 @@ fn end_before(here: i64, begins: i64) -> i64
 }
 
 /// A point with its allowances.
-fn moved_point(across: u64, along: u64, point: &Point) -> Point
+pub fn moved_point(across: u64, along: u64, point: &Point) -> Point
     requires across { across ≤ LONGEST_SAID }
     requires along { along ≤ LONGEST_SAID }
     requires point { IsWritten point.now }
@@ -297,7 +297,12 @@ fn moved_piece(across: u64, along: u64, piece: &Piece) -> Piece
 }
 
 /// Pieces with their allowances.
-fn moved(alloc: Global, across: u64, along: u64, pieces: &[Piece]) -> Result<Vec<Piece>, AllocError>
+pub fn moved(
+    alloc: Global,
+    across: u64,
+    along: u64,
+    pieces: &[Piece],
+) -> Result<Vec<Piece>, AllocError>
     requires across { across ≤ LONGEST_SAID }
     requires along { along ≤ LONGEST_SAID }
     requires pieces { All (IsPieceWithin LONGEST_SAID) pieces.now }
@@ -345,7 +350,7 @@ fn leg_of(piece: &Piece) -> Leg
 }
 
 /// Puts a block that moves across alone, in X as it is seen.
-fn push_across(
+pub fn push_across(
     frame: &Frame,
     leg: Leg,
     point: &Point,
@@ -364,7 +369,7 @@ fn push_across(
 }
 
 /// Puts a block that moves along alone, in Z as it is seen.
-fn push_along(
+pub fn push_along(
     frame: &Frame,
     leg: Leg,
     point: &Point,
@@ -383,7 +388,7 @@ fn push_along(
 }
 
 /// Puts a block that moves both ways.
-fn push_both(
+pub fn push_both(
     frame: &Frame,
     leg: Leg,
     point: &Point,

@@ -10,7 +10,10 @@ mod seen;
 
 pub use check::{FormFault, step_fault};
 pub use entry::Entry;
-pub use form::{ContourForm, TRIED};
+pub use form::{
+    ContourForm, TRIED, across_of, along_of, end_before, lesser, moved, moved_point, push_across,
+    push_along, push_both,
+};
 pub use frame::{Frame, Sight};
 pub use law::{
     a_form_without_fault_is_sound, no_block_enters_the_contour, nothing_is_left_but_a_cut,

@@ -28,6 +28,10 @@ use Rattle.rough_forms.specs.Frames.{seen}
 use Rattle.rough_forms.specs.Roughing.{Rough, IsFinishStart, inner_edges, rough_blocks, finish_blocks}
 use Rattle.rough_forms.specs.Told.{KeepOut}
 use Rattle.rough_forms.proofs.Sound.{no_fault}
+use Rattle.pocket_forms.specs.Check.{pocket_fault, IsPocketForm}
+use Rattle.pocket_forms.specs.Passes.{pocket_blocks}
+use Rattle.pocket_forms.proofs.Sound.{no_pocket_fault}
+use Rattle.pocket_forms.proofs.Told as pocket
 use Rattle.rough_forms.proofs.ToldClear.{passes_keep_out, rough_keeps_out, finish_keeps_out}
 use Rattle.contour_words.specs.declared.contour.Contour.{Contour}
 use Rattle.contour_words.specs.Causes.{refuse}
@@ -36,7 +40,7 @@ use Rattle.rough_words.specs.declared.form.Cycle.{Cycle}
 use Rattle.rough_words.specs.declared.form.Cycle.TheVariants as cycle
 use Rattle.rough_words.specs.declared.head.Head.{Head}
 use Rattle.rough_words.specs.declared.sizes.Sizes.{Sizes}
-use Rattle.rough_words.specs.Answers.{gone, written}
+use Rattle.rough_words.specs.Answers.{fault_of, gone, written}
 use Rattle.rough_words.specs.Finishes.{called, cycle_way, finish_cause, finish_head, finish_lines, finish_sizes, finish_by, form_finish, read_finish, way_finish, found_finish, said_finish, finish_answer}
 use Rattle.rough_words.specs.Form.{answer_by, answer_from, cycle_of, first_answer, some_answer, start_answer, rough_form}
 use Rattle.rough_words.specs.Heads.{head_of}
@@ -46,7 +50,8 @@ use Rattle.rough_words.specs.Patterns.{part_of, pass_form, out_form, pattern_lin
 use Rattle.rough_words.specs.Roughs as rough
 use Rattle.rough_words.specs.Roughs.{blocks_behind, contour_blocks, cycle_lines, form_with, frame_for}
 use Rattle.rough_words.specs.Sizings.{sizes_of}
-use Rattle.rough_words.specs.Written.{IsFormFrom, IsRoughed, IsFinished, IsPatterned, IsCutLine, AreCutLines}
+use Rattle.rough_words.specs.Shapes.{has_pockets}
+use Rattle.rough_words.specs.Written.{IsFormFrom, IsRoughed, IsFinished, IsPatterned, IsPocketed, IsPocketFinished, IsCutLine, AreCutLines}
 
 -- lines that are written are those
 listed : {a b : List WrittenLine} → Written a ≡ Written b → a ≡ b
@@ -61,32 +66,66 @@ all_gone scene (suc n) = (inl refl, all_gone scene n)
 form_from : (scene : Scene) (start : Point) (r : Rough) → start_of scene ≡ Some start → seen r.frame start ≡ r.start → form_fault r ≡ None → IsFormFrom scene start r
 form_from scene start r stands begins fit = record { stands = stands; begins = begins; sound = no_fault r fit }
 
+-- the lines of G71 or G72, over a contour that rises
+risen : (scene : Scene) (start : Point) (head : Head) (r : Rough) (contour : Contour) (lines : List WrittenLine) → start_of scene ≡ Some start → seen r.frame start ≡ r.start → form_fault r ≡ None
+    → Written (written (cycle_lines head.tempo (rough_blocks r TRIED) scene) (blocks_behind head contour)) ≡ Written lines → AreCutLines scene lines
+risen scene start head r contour lines stands begins fit same =
+    let form : IsFormFrom scene start r = form_from scene start r stands begins fit in
+    let sound : IsSound r = form.sound in
+    let own : IsRoughed scene (record { blocks = cycle_lines head.tempo (rough_blocks r TRIED) scene }) start r head.tempo = record {
+      form = form;
+      lines = refl;
+      passes = (λ d parts. passes_keep_out d r start TRIED parts sound.form begins);
+      rough = (λ d parts. rough_keeps_out d r start TRIED parts sound.form begins);
+    } in
+    subst (AreCutLines scene) (listed same) (inr (inl (start, r, head.tempo, own)), all_gone scene (blocks_behind head contour))
+
+-- over one with pockets
+pocketed : (scene : Scene) (start : Point) (head : Head) (r : Rough) (contour : Contour) (lines : List WrittenLine) → start_of scene ≡ Some start → seen r.frame start ≡ r.start → pocket_fault r ≡ None
+    → Written (written (cycle_lines head.tempo (pocket_blocks r TRIED) scene) (blocks_behind head contour)) ≡ Written lines → AreCutLines scene lines
+pocketed scene start head r contour lines stands begins fit same =
+    let form : IsPocketForm r = no_pocket_fault r fit in
+    let own : IsPocketed scene (record { blocks = cycle_lines head.tempo (pocket_blocks r TRIED) scene }) start r head.tempo = record {
+      stands = stands;
+      begins = begins;
+      form = form;
+      lines = refl;
+      passes = (λ d parts. pocket.passes_keep_out d r start TRIED parts form begins);
+      rough = (λ d parts. pocket.pocket_keeps_out d r start TRIED parts form begins);
+    } in
+    subst (AreCutLines scene) (listed same) (inr (inr (inr (inr (inl (start, r, head.tempo, own))))), all_gone scene (blocks_behind head contour))
+
 -- the lines of G71 or G72
 roughed : (scene : Scene) (start : Point) (head : Head) (r : Rough) (contour : Contour) (lines : List WrittenLine) → start_of scene ≡ Some start → seen r.frame start ≡ r.start
     → rough.form_answer head r contour scene ≡ Written lines → AreCutLines scene lines
-roughed scene start head r contour lines stands begins e = go (form_fault r) refl e
+roughed scene start head r contour lines stands begins e = shaped (has_pockets r contour) e
   where
-    go : (fault : Option FormFault) → form_fault r ≡ fault → rough.answer_by head r contour scene fault ≡ Written lines → AreCutLines scene lines
-    go (Some fault) is wrong = absurd (let no_lines : Refused _ ≡ Written lines = wrong in cc)
-    go None is same =
-        let form : IsFormFrom scene start r = form_from scene start r stands begins is in
-        let sound : IsSound r = form.sound in
-        let own : IsRoughed scene (record { blocks = cycle_lines head.tempo (rough_blocks r TRIED) scene }) start r head.tempo = record {
-          form = form;
-          lines = refl;
-          passes = (λ d parts. passes_keep_out d r start TRIED parts sound.form begins);
-          rough = (λ d parts. rough_keeps_out d r start TRIED parts sound.form begins);
-        } in
-        subst (AreCutLines scene) (listed same) (inr (inl (start, r, head.tempo, own)), all_gone scene (blocks_behind head contour))
+    refused : (what : FormFault) (pockets : Bool) → Refused (fault_of head pockets r contour what) ≡ Written lines → AreCutLines scene lines
+    refused what pockets wrong = absurd (let no_lines : Refused (fault_of head pockets r contour what) ≡ Written lines = wrong in cc)
+
+    rise : (fault : Option FormFault) → form_fault r ≡ fault → rough.answered head (has_pockets r contour) r contour (cycle_lines head.tempo (rough_blocks r TRIED) scene) fault ≡ Written lines → AreCutLines scene lines
+    rise (Some what) is wrong = refused what (has_pockets r contour) wrong
+    rise None is same = risen scene start head r contour lines stands begins is same
+
+    dip : (fault : Option FormFault) → pocket_fault r ≡ fault → rough.answered head (has_pockets r contour) r contour (cycle_lines head.tempo (pocket_blocks r TRIED) scene) fault ≡ Written lines → AreCutLines scene lines
+    dip (Some what) is wrong = refused what (has_pockets r contour) wrong
+    dip None is same = pocketed scene start head r contour lines stands begins is same
+
+    shaped : (pockets : Bool) → rough.answered head (has_pockets r contour) r contour (cycle_lines head.tempo (cond pockets (pocket_blocks r TRIED) (rough_blocks r TRIED)) scene) (cond pockets (pocket_fault r) (form_fault r)) ≡ Written lines → AreCutLines scene lines
+    shaped true same = dip (pocket_fault r) refl same
+    shaped false same = rise (form_fault r) refl same
 
 -- the lines of G70
 finished : (scene : Scene) (start : Point) (head : Head) (r : Rough) (contour : Contour) (lines : List WrittenLine) → start_of scene ≡ Some start → seen r.frame start ≡ r.start
     → form_finish head r contour scene ≡ Written lines → AreCutLines scene lines
-finished scene start head r contour lines stands begins e = go (form_fault r) refl e
+finished scene start head r contour lines stands begins e = shaped (has_pockets r contour) e
   where
-    go : (fault : Option FormFault) → form_fault r ≡ fault → finish_by head r contour scene fault ≡ Written lines → AreCutLines scene lines
-    go (Some fault) is wrong = absurd (let no_lines : Refused _ ≡ Written lines = wrong in cc)
-    go None is same =
+    refused : (what : FormFault) (pockets : Bool) → Refused (fault_of head pockets r contour what) ≡ Written lines → AreCutLines scene lines
+    refused what pockets wrong = absurd (let no_lines : Refused (fault_of head pockets r contour what) ≡ Written lines = wrong in cc)
+
+    rise : (fault : Option FormFault) → form_fault r ≡ fault → finish_by head r contour scene fault ≡ Written lines → AreCutLines scene lines
+    rise (Some what) is wrong = refused what (has_pockets r contour) wrong
+    rise None is same =
         let form : IsFormFrom scene start r = form_from scene start r stands begins is in
         let sound : IsSound r = form.sound in
         let own : IsFinished scene (record { blocks = finish_lines head contour (finish_blocks r r.start) scene }) start r head contour = record {
@@ -96,6 +135,23 @@ finished scene start head r contour lines stands begins e = go (form_fault r) re
               (finish_keeps_out d r start sound.form (subst (IsFinishStart r) (sym begins) sound.finish)));
         } in
         subst (AreCutLines scene) (listed same) (inr (inr (inl (start, r, head, contour, own))), tt)
+
+    dip : (fault : Option FormFault) → pocket_fault r ≡ fault → finish_by head r contour scene fault ≡ Written lines → AreCutLines scene lines
+    dip (Some what) is wrong = refused what (has_pockets r contour) wrong
+    dip None is same =
+        let form : IsPocketForm r = no_pocket_fault r is in
+        let own : IsPocketFinished scene (record { blocks = finish_lines head contour (finish_blocks r r.start) scene }) start r head contour = record {
+          stands = stands;
+          begins = begins;
+          form = form;
+          lines = refl;
+          finish = (λ d parts. pocket.finish_keeps_out d r start form begins);
+        } in
+        subst (AreCutLines scene) (listed same) (inr (inr (inr (inr (inr (start, r, head, contour, own))))), tt)
+
+    shaped : (pockets : Bool) → finish_by head r contour scene (cond pockets (pocket_fault r) (form_fault r)) ≡ Written lines → AreCutLines scene lines
+    shaped true same = dip (pocket_fault r) refl same
+    shaped false same = rise (form_fault r) refl same
 
 -- a part of a way is no longer than the way
 part_less : (way n passes : ℕ) → part_of way n passes ≤ way
@@ -141,7 +197,7 @@ patterned scene start head offsets frame contour lines stands e = go (form_fault
           lines = refl;
           passes = (λ n d parts. rough_keeps_out d (pass_form offsets frame start contour n) start TRIED parts (sound n).form refl);
         } in
-        subst (AreCutLines scene) (listed same) (inr (inr (inr (start, head, offsets, frame, contour, own))), all_gone scene (blocks_behind head contour))
+        subst (AreCutLines scene) (listed same) (inr (inr (inr (inl (start, head, offsets, frame, contour, own)))), all_gone scene (blocks_behind head contour))
 
 -- a cycle of G73
 pattern_cut : (block : Block) (start : Point) (behind : List Block) (scene : Scene) (settings : FormSettings) (lines : List WrittenLine) → start_of scene ≡ Some start

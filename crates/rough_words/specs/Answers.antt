@@ -12,7 +12,6 @@ use Rattle.plain_form.specs.Made.{number_word, plain_line}
 use Rattle.rough_forms.specs.declared.frame.Frame.{Frame}
 use Rattle.rough_forms.specs.declared.check.FormFault.{FormFault}
 use Rattle.rough_forms.specs.declared.check.FormFault.TheVariants as form
-use Rattle.rough_forms.specs.Check.{step_fault}
 use Rattle.rough_forms.specs.Frames.{seen_piece}
 use Rattle.rough_forms.specs.Roughing.{Rough}
 use Rattle.contour_words.specs.declared.contour.Contour.{Contour}
@@ -20,6 +19,7 @@ use Rattle.contour_words.specs.declared.contour.ContourLine.{ContourLine}
 use Rattle.contour_words.specs.Causes.{fault}
 use Rattle.rough_words.specs.declared.head.Head.{Head}
 use Rattle.rough_words.specs.Heads.{depth_letter}
+use Rattle.rough_words.specs.Shapes.{shape_step}
 
 -- a line of a speed, if there is one
 abbrev pub speed_lines : Option ℤ → List Block
@@ -35,13 +35,13 @@ abbrev pub written : List Block → ℕ → List WrittenLine
 written lines behind = record { blocks = lines } ∷ replicate behind gone
 
 -- whether a piece, if there is one, belongs to no contour, as it is seen
-abbrev pub is_piece_faulty : Frame → Point → Option Piece → Bool
-is_piece_faulty frame from (Some piece) = is_some (step_fault frame.way from (seen_piece frame piece))
-is_piece_faulty frame from None = false
+abbrev pub is_piece_faulty : Bool → Frame → Point → Option Piece → Bool
+is_piece_faulty pockets frame from (Some piece) = is_some (shape_step pockets frame.way from (seen_piece frame piece))
+is_piece_faulty pockets frame from None = false
 
 -- whether the piece of a line belongs to no contour
-abbrev pub is_faulty : Frame → Point → ContourLine → Bool
-is_faulty frame from line = is_piece_faulty frame from line.piece
+abbrev pub is_faulty : Bool → Frame → Point → ContourLine → Bool
+is_faulty pockets frame from line = is_piece_faulty pockets frame from line.piece
 
 -- where a piece leads, if there is one, as it is seen
 abbrev pub seen_piece_end : Frame → Point → Option Piece → Point
@@ -53,23 +53,26 @@ abbrev pub seen_end : Frame → Point → ContourLine → Point
 seen_end frame from line = seen_piece_end frame from line.piece
 
 -- the line of the first block of a contour whose piece belongs to none
-abbrev pub fault_line : Frame → Point → List ContourLine → ℕ → ℕ
-fault_line frame from [] call = call
-fault_line frame from (line ∷ lines) call =
-    if is_faulty frame from line then line.line else fault_line frame (seen_end frame from line) lines call
+abbrev pub fault_line : Bool → Frame → Point → List ContourLine → ℕ → ℕ
+fault_line pockets frame from [] call = call
+fault_line pockets frame from (line ∷ lines) call =
+    if is_faulty pockets frame from line
+    then line.line
+    else fault_line pockets frame (seen_end frame from line) lines call
 
 -- the letter of a depth
 abbrev pub depth_said : Head → ℕ
 depth_said head = if head.is_single then 68 else depth_letter head.way
 
 -- the line of the first piece that belongs to no contour
-abbrev pub own_line : Rough → Contour → ℕ → ℕ
-own_line r contour call = fault_line r.frame r.first contour.lines call
+abbrev pub own_line : Bool → Rough → Contour → ℕ → ℕ
+own_line pockets r contour call = fault_line pockets r.frame r.first contour.lines call
 
 -- the fault of a line of the tape that a form has
-abbrev pub fault_of : Head → Rough → Contour → FormFault → PlainFault
-fault_of head r contour form.Depth = fault head.call.line (cause.Range (depth_said head))
-fault_of head r contour form.Start = fault head.call.line cause.Start
-fault_of head r contour form.Passes = fault head.call.line cause.Passes
-fault_of head r contour form.Direction = fault (own_line r contour head.call.line) cause.Direction
-fault_of head r contour form.Arc = fault (own_line r contour head.call.line) cause.Arc
+abbrev pub fault_of : Head → Bool → Rough → Contour → FormFault → PlainFault
+fault_of head pockets r contour form.Depth = fault head.call.line (cause.Range (depth_said head))
+fault_of head pockets r contour form.Start = fault head.call.line cause.Start
+fault_of head pockets r contour form.Passes = fault head.call.line cause.Passes
+fault_of head pockets r contour form.Allowance = fault head.call.line cause.Allowance
+fault_of head pockets r contour form.Direction = fault (own_line pockets r contour head.call.line) cause.Direction
+fault_of head pockets r contour form.Arc = fault (own_line pockets r contour head.call.line) cause.Arc

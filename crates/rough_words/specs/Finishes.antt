@@ -21,7 +21,6 @@ use Rattle.cycle_words.specs.Motion.{code_lines}
 use Rattle.cycle_words.specs.Numbers.{count_or}
 use Rattle.cycle_words.specs.Scenes.{words_of}
 use Rattle.rough_forms.specs.declared.check.FormFault.{FormFault}
-use Rattle.rough_forms.specs.Check.{form_fault}
 use Rattle.rough_forms.specs.Roughing.{Rough, finish_blocks}
 use Rattle.contour_words.specs.declared.contour.Contour.{Contour}
 use Rattle.contour_words.specs.declared.contour.ContourLine.{ContourLine}
@@ -34,6 +33,7 @@ use Rattle.rough_words.specs.declared.sizes.Sizes.{Sizes}
 use Rattle.rough_words.specs.Answers.{fault_of, speed_lines, written}
 use Rattle.rough_words.specs.Heads.{numbers_cause, tool_cause, way_of}
 use Rattle.rough_words.specs.Roughs.{form_with, frame_for}
+use Rattle.rough_words.specs.Shapes.{has_pockets, shape_fault}
 use Rattle.rough_words.specs.Sizings.{number_or}
 
 -- why the words of G70 are refused
@@ -151,12 +151,12 @@ finish_lines head contour blocks scene =
 
 -- the answer to a finish of a form that has this fault, or none
 abbrev pub finish_by : Head → Rough → Contour → Scene → Option FormFault → FormAnswer
-finish_by head r contour scene (Some what) = Refused (fault_of head r contour what)
+finish_by head r contour scene (Some what) = Refused (fault_of head (has_pockets r contour) r contour what)
 finish_by head r contour scene None = Written (written (finish_lines head contour (finish_blocks r r.start) scene) 0)
 
 -- the answer to a finish of this form
 abbrev pub form_finish : Head → Rough → Contour → Scene → FormAnswer
-form_finish head r contour scene = finish_by head r contour scene (form_fault r)
+form_finish head r contour scene = finish_by head r contour scene (shape_fault r contour)
 
 -- the answer to a finish along a contour that was read
 abbrev pub contour_finish : Head → Point → Contour → Scene → FormAnswer

@@ -26,11 +26,6 @@ frame_of Along start first last =
 frame_of Across start first last =
     record { way = Across; across = sight_of first.z last.z start.z; along = sight_of last.x first.x start.x }
 
--- the finishing allowance along an axis, as it is seen; none if it leads into the part
-abbrev pub allowance : Sight → ℤ → Option ℕ
-allowance Plain said = if int_lt said (pos 0) then None else Some (unsigned_abs said)
-allowance Mirrored said = if int_lt (pos 0) said then None else Some (unsigned_abs said)
-
 -- where a piece leads, if there is one
 abbrev pub piece_end : Point → Option Piece → Point
 piece_end from (Some piece) = to_of piece
@@ -39,6 +34,44 @@ piece_end from None = from
 -- where a line of a contour leads from a point
 abbrev pub line_end : Point → ContourLine → Point
 line_end from line = piece_end from line.piece
+
+-- how far a point lies across the passes
+abbrev pub across_length : Way → Point → ℤ
+across_length Along p = p.x
+across_length Across p = p.z
+
+-- whether a line of a contour behind this point leads past a length across the passes
+abbrev pub some_past : Way → ℤ → Point → List ContourLine → Bool
+some_past way limit from [] = false
+some_past way limit from (line ∷ lines) =
+    int_lt limit (across_length way (line_end from line)) || some_past way limit (line_end from line) lines
+
+-- whether one leads short of it
+abbrev pub some_short : Way → ℤ → Point → List ContourLine → Bool
+some_short way limit from [] = false
+some_short way limit from (line ∷ lines) =
+    int_lt (across_length way (line_end from line)) limit || some_short way limit (line_end from line) lines
+
+-- how lengths across the passes are seen of a contour that may rise and fall: from the side of the start, if
+-- no point of it lies on the other side of that
+abbrev pub side_of : Way → Point → Point → List ContourLine → Sight → Sight
+side_of way start first lines other =
+    if int_lt (across_length way start) (across_length way first) || some_past way (across_length way start) first lines
+    then (
+    if int_lt (across_length way first) (across_length way start) || some_short way (across_length way start) first lines
+    then other
+    else Mirrored
+    )
+    else Plain
+
+-- the frame, seen so across the passes
+abbrev pub with_side : Sight → Frame → Frame
+with_side side frame = record { way = frame.way; across = side; along = frame.along }
+
+-- the finishing allowance along an axis, as it is seen; none if it leads into the part
+abbrev pub allowance : Sight → ℤ → Option ℕ
+allowance Plain said = if int_lt said (pos 0) then None else Some (unsigned_abs said)
+allowance Mirrored said = if int_lt (pos 0) said then None else Some (unsigned_abs said)
 
 -- where a contour of the tape ends
 abbrev pub last_of : Point → List ContourLine → Point

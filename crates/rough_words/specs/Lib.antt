@@ -2,6 +2,7 @@
 -- (Patterns) and for G70 (Finishes), how a contour is seen (Frames),
 -- and that no block enters it (Written).
 pub mod Form
+pub mod Shapes
 pub mod Roughs
 pub mod Patterns
 pub mod Finishes

@@ -1,6 +1,6 @@
 -- G73 with its contour: the contour moved out, and in again from pass to pass. src/pattern.rt makes the
 -- answer. 82 is the letter R, 85 U, 87 W.
-use Rattle.std.specs.Prelude.{ℕ, zero, suc, ◌+◌, ◌-◌, ◌*◌, ◌/◌, ◌≤◌, ◌||◌, ◌==◌, min, nat_lt, List, [], ◌∷◌, ◌++◌, codes, Option, Some, None, unwrap_or, Result, Ok, Err, ℤ, pos, unsigned_abs, if◌then◌else◌}
+use Rattle.std.specs.Prelude.{ℕ, zero, suc, ◌+◌, ◌-◌, ◌*◌, ◌/◌, ◌≤◌, ◌||◌, ◌==◌, min, nat_lt, false, List, [], ◌∷◌, ◌++◌, codes, Option, Some, None, unwrap_or, Result, Ok, Err, ℤ, pos, unsigned_abs, if◌then◌else◌}
 use Rattle.nc_number.specs.declared.limits.TheConstants.{LONGEST_SAID}
 use Rattle.nc_number.specs.declared.point.Point.{Point}
 use Rattle.nc_number.specs.Results.{◌>>=◌}
@@ -121,7 +121,7 @@ pattern_lines head offsets frame start contour scene =
 -- the answer to a pattern whose form that is moved out farthest has this fault, or none
 abbrev pub pattern_by : Head → Offsets → Frame → Point → Contour → Scene → Option FormFault → FormAnswer
 pattern_by head offsets frame start contour scene (Some what) =
-    Refused (fault_of head (out_form offsets frame start contour) contour what)
+    Refused (fault_of head false (out_form offsets frame start contour) contour what)
 pattern_by head offsets frame start contour scene None =
     Written (written (pattern_lines head offsets frame start contour scene) (blocks_behind head contour))
 

@@ -1,6 +1,6 @@
 -- G71 and G72 with their contours: the form that they make, and what is answered for them.
 -- src/rough.rt makes the answer.
-use Rattle.std.specs.Prelude.{ℕ, ◌+◌, List, ◌++◌, length, drop, Option, Some, None, Result, Ok, Err, if◌then◌else◌}
+use Rattle.std.specs.Prelude.{ℕ, ◌+◌, Bool, List, ◌++◌, length, drop, Option, Some, None, Result, Ok, Err, if◌then◌else◌}
 use Rattle.nc_number.specs.declared.point.Point.{Point}
 use Rattle.nc_text.specs.declared.tape.Block.{Block}
 use Rattle.arc_contour.specs.declared.way.Way.{Way}
@@ -14,23 +14,26 @@ use Rattle.cycle_words.specs.Lines.{lines_of}
 use Rattle.cycle_words.specs.Motion.{code_lines}
 use Rattle.rough_forms.specs.declared.frame.Frame.{Frame}
 use Rattle.rough_forms.specs.declared.check.FormFault.{FormFault}
-use Rattle.rough_forms.specs.declared.form.TheConstants.{TRIED}
-use Rattle.rough_forms.specs.Check.{form_fault}
 use Rattle.rough_forms.specs.Frames.{seen}
-use Rattle.rough_forms.specs.Roughing.{Rough, rough_blocks}
+use Rattle.rough_forms.specs.Roughing.{Rough}
 use Rattle.contour_words.specs.declared.contour.Contour.{Contour}
 use Rattle.contour_words.specs.declared.tempo.Tempo.{Tempo}
 use Rattle.contour_words.specs.Contours.{contour_of}
 use Rattle.rough_words.specs.declared.head.Head.{Head}
 use Rattle.rough_words.specs.declared.sizes.Sizes.{Sizes}
 use Rattle.rough_words.specs.Answers.{fault_of, speed_lines, written}
-use Rattle.rough_words.specs.Frames.{frame_of, last_of, seen_pieces}
+use Rattle.rough_words.specs.Frames.{frame_of, last_of, seen_pieces, side_of, with_side}
 use Rattle.rough_words.specs.Heads.{head_of}
+use Rattle.rough_words.specs.Shapes.{has_pockets, shape_blocks, shape_fault}
 use Rattle.rough_words.specs.Sizings.{sizes_of}
 
 -- how the contour of a cycle is seen
 abbrev pub frame_for : Way → Point → Contour → Frame
-frame_for way start contour = frame_of way start contour.first.point (last_of contour.first.point contour.lines)
+frame_for way start contour =
+    let frame = frame_of way start contour.first.point (last_of contour.first.point contour.lines) in
+    if contour.first.names_both
+    then with_side (side_of way start contour.first.point contour.lines frame.across) frame
+    else frame
 
 -- the form of these sizes
 abbrev pub form_with : Frame → Sizes → Point → Contour → Rough
@@ -54,15 +57,16 @@ blocks_behind head contour = if head.is_single then length contour.lines + 1 els
 abbrev pub cycle_lines : Tempo → List PlainBlock → Scene → List Block
 cycle_lines tempo blocks scene = speed_lines tempo.speed ++ (lines_of tempo.feed blocks ++ code_lines scene.motion)
 
--- the answer to a form that has this fault, or none
-abbrev pub answer_by : Head → Rough → Contour → Scene → Option FormFault → FormAnswer
-answer_by head r contour scene (Some what) = Refused (fault_of head r contour what)
-answer_by head r contour scene None =
-    Written (written (cycle_lines head.tempo (rough_blocks r TRIED) scene) (blocks_behind head contour))
+-- the answer to a form over a contour with pockets, or without, that has this fault, or else these lines
+abbrev pub answered : Head → Bool → Rough → Contour → List Block → Option FormFault → FormAnswer
+answered head pockets r contour lines (Some what) = Refused (fault_of head pockets r contour what)
+answered head pockets r contour lines None = Written (written lines (blocks_behind head contour))
 
 -- the answer to a cycle of this form
 abbrev pub form_answer : Head → Rough → Contour → Scene → FormAnswer
-form_answer head r contour scene = answer_by head r contour scene (form_fault r)
+form_answer head r contour scene =
+    answered head (has_pockets r contour) r contour (cycle_lines head.tempo (shape_blocks r contour) scene)
+    (shape_fault r contour)
 
 -- the answer to a cycle of these sizes
 abbrev pub sizes_answer : Head → Frame → Point → Contour → Scene → Result Sizes PlainFault → FormAnswer

@@ -6,12 +6,13 @@ ghost use Rattle.contour_words.specs.Contours.{IsNearContour, IsNearLine};
 ghost use Rattle.rough_words.specs.Answers.{speed_lines, gone, written, is_faulty, seen_end, fault_line, depth_said, own_line, fault_of};
 
 use crate::head::{Head, depth_letter};
+use crate::shape::shape_step;
 use arc_contour::to_of;
 use contour_words::{Contour, ContourLine, fault};
 use nc_number::{ListOf, Point, Value};
 use nc_text::{Block, BlockList};
 use plain_form::{PlainCause, PlainFault, WrittenLine, WrittenLineList, plain_line, push_number};
-use rough_forms::{ContourForm, FormFault, Frame, step_fault};
+use rough_forms::{ContourForm, FormFault, Frame};
 use std::alloc::{AllocError, Global};
 
 /// Puts a line of a speed, if there is one.
@@ -61,13 +62,13 @@ pub(crate) fn written(
 
 /// Whether the piece of a line belongs to no contour.
 #[tactic(auto, using(rough_forms::proofs::Started::piece_wider))]
-fn is_faulty(frame: &Frame, from: &Point, line: &ContourLine) -> bool
+fn is_faulty(pockets: bool, frame: &Frame, from: &Point, line: &ContourLine) -> bool
     requires from { IsWritten from.now }
     requires line { IsNearLine line.now }
-    ensures { result ≡ is_faulty frame.now from.now line.now }
+    ensures { result ≡ is_faulty pockets frame.now from.now line.now }
 {
     match &line.piece {
-        Some(piece) => step_fault(frame.way, from, &frame.seen_piece(piece)).is_some(),
+        Some(piece) => shape_step(pockets, frame.way, from, &frame.seen_piece(piece)).is_some(),
         None => false,
     }
 }
@@ -86,14 +87,14 @@ fn seen_end(frame: &Frame, from: &Point, line: &ContourLine) -> Point
 }
 
 /// The line of the first block of a contour whose piece belongs to none, as it is seen.
-fn fault_line(frame: &Frame, first: &Point, lines: &[ContourLine], call: u32) -> u32
+fn fault_line(pockets: bool, frame: &Frame, first: &Point, lines: &[ContourLine], call: u32) -> u32
     requires first { IsWritten first.now }
     requires lines { All IsNearLine lines.now }
-    ensures { result ≡ fault_line frame.now first.now lines.now call }
+    ensures { result ≡ fault_line pockets frame.now first.now lines.now call }
 {
     let mut from = *first;
     for line in lines {
-        if is_faulty(frame, &from, line) {
+        if is_faulty(pockets, frame, &from, line) {
             return line.line;
         }
         from = seen_end(frame, &from, line);
@@ -113,31 +114,42 @@ fn depth_said(head: &Head) -> u8
 }
 
 /// The line of the first piece that belongs to no contour.
-fn own_line(form: &ContourForm, contour: &Contour, call: u32) -> u32
+fn own_line(pockets: bool, form: &ContourForm, contour: &Contour, call: u32) -> u32
     requires form { IsNearForm (rough_of form.now) }
     requires contour { IsNearContour contour.now }
-    ensures { result ≡ own_line (rough_of form.now) contour.now call }
+    ensures { result ≡ own_line pockets (rough_of form.now) contour.now call }
 {
-    fault_line(&form.frame, &form.first, contour.lines.as_slice(), call)
+    fault_line(
+        pockets,
+        &form.frame,
+        &form.first,
+        contour.lines.as_slice(),
+        call,
+    )
 }
 
-/// The fault of a line of the tape that a form has.
+/// The fault of a line of the tape that a form has, over a contour with pockets or without.
 pub(crate) fn fault_of(
     head: &Head,
+    pockets: bool,
     form: &ContourForm,
     contour: &Contour,
     what: FormFault,
 ) -> PlainFault
     requires form { IsNearForm (rough_of form.now) }
     requires contour { IsNearContour contour.now }
-    ensures { result ≡ fault_of head.now (rough_of form.now) contour.now what }
+    ensures { result ≡ fault_of head.now pockets (rough_of form.now) contour.now what }
 {
     let call = head.call.line;
     match what {
         FormFault::Depth => fault(call, PlainCause::Range(depth_said(head))),
         FormFault::Start => fault(call, PlainCause::Start),
         FormFault::Passes => fault(call, PlainCause::Passes),
-        FormFault::Direction => fault(own_line(form, contour, call), PlainCause::Direction),
-        FormFault::Arc => fault(own_line(form, contour, call), PlainCause::Arc),
+        FormFault::Allowance => fault(call, PlainCause::Allowance),
+        FormFault::Direction => fault(
+            own_line(pockets, form, contour, call),
+            PlainCause::Direction,
+        ),
+        FormFault::Arc => fault(own_line(pockets, form, contour, call), PlainCause::Arc),
     }
 }

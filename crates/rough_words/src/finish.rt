@@ -9,6 +9,7 @@ ghost use Rattle.rough_words.specs.Sizings.{IsNearSizes};
 use crate::answers::{fault_of, push_speed, written};
 use crate::head::{Cut, Head, PATTERN_CODE, numbers_cause, tool_cause, way_of};
 use crate::rough::{form_with, frame_for};
+use crate::shape::{has_pockets, shape_fault};
 use crate::sizes::Sizes;
 use arc_contour::Way;
 use contour_words::{
@@ -309,8 +310,14 @@ fn form_finish(
     requires contour { IsNearContour contour.now }
     ensures { IfOk result (λ answer. answer ≡ form_finish head.now (rough_of form.now) contour.now scene.now) }
 {
-    if let Some(what) = form.fault(alloc)? {
-        return Ok(FormAnswer::Refused(fault_of(head, form, contour, what)));
+    if let Some(what) = shape_fault(alloc, form, contour)? {
+        return Ok(FormAnswer::Refused(fault_of(
+            head,
+            has_pockets(form, contour),
+            form,
+            contour,
+            what,
+        )));
     }
     let blocks = form.finish_blocks(alloc, &form.start)?;
     let lines = finish_lines(alloc, head, contour, &blocks, scene)?;

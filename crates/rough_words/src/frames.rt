@@ -3,7 +3,7 @@ ghost use Rattle.std.specs.Prelude.{◌≡◌, ◌≤◌, ◌++◌, ◌∷◌, [
 ghost use Rattle.nc_number.specs.declared.limits.TheConstants.{LONGEST_SAID};
 ghost use Rattle.arc_contour.specs.Bounds.{IsWritten, IsPieceWithin};
 ghost use Rattle.contour_words.specs.Contours.{IsNearLine};
-ghost use Rattle.rough_words.specs.Frames.{sight_of, line_end, last_of, frame_of, line_pieces, seen_pieces, allowance};
+ghost use Rattle.rough_words.specs.Frames.{sight_of, line_end, across_length, some_past, some_short, side_of, last_of, frame_of, line_pieces, seen_pieces, allowance};
 ghost use Rattle.rough_forms.specs.Frames.{seen_piece};
 
 use arc_contour::{Piece, Way, to_of};
@@ -41,6 +41,65 @@ pub(crate) fn frame_of(way: Way, start: &Point, first: &Point, last: &Point) -> 
             along: sight_of(last.x, first.x, start.x),
         },
     }
+}
+
+/// How far a point lies across the passes.
+fn across_length(way: Way, point: &Point) -> i64
+    ensures { result ≡ across_length way point.now }
+{
+    match way {
+        Way::Along => point.x,
+        Way::Across => point.z,
+    }
+}
+
+/// Whether a line of a contour behind this point leads past a length across the passes.
+fn some_past(way: Way, limit: i64, first: &Point, lines: &[ContourLine]) -> bool
+    ensures { result ≡ some_past way limit first.now lines.now }
+{
+    let mut from = *first;
+    for line in lines {
+        from = line_end(&from, line);
+        if limit < across_length(way, &from) {
+            return true;
+        }
+    }
+    false
+}
+
+/// Whether a line of a contour behind this point leads short of a length across the passes.
+fn some_short(way: Way, limit: i64, first: &Point, lines: &[ContourLine]) -> bool
+    ensures { result ≡ some_short way limit first.now lines.now }
+{
+    let mut from = *first;
+    for line in lines {
+        from = line_end(&from, line);
+        if across_length(way, &from) < limit {
+            return true;
+        }
+    }
+    false
+}
+
+/// How lengths across the passes are seen of a contour that may rise and fall: from the side of the start,
+/// if no point of it lies on the other side of that.
+pub(crate) fn side_of(
+    way: Way,
+    start: &Point,
+    first: &Point,
+    lines: &[ContourLine],
+    other: Sight,
+) -> Sight
+    ensures { result ≡ side_of way start.now first.now lines.now other }
+{
+    let limit = across_length(way, start);
+    let begins = across_length(way, first);
+    let is_past = limit < begins || some_past(way, limit, first, lines);
+    if !is_past {
+        return Sight::Plain;
+    }
+    let is_short = begins < limit || some_short(way, limit, first, lines);
+    if is_short { other } else { Sight::Mirrored }
 }
 
 /// The finishing allowance along an axis, as it is seen; none if it leads into the part.

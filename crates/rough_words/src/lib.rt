@@ -10,10 +10,11 @@ mod head;
 mod law;
 mod pattern;
 mod rough;
+mod shape;
 mod sizes;
 
 pub use form::{Cycle, rough_form};
 pub use head::{Cut, Head};
-pub use law::a_written_contour_is_not_entered;
+pub use law::{a_pattern_comes_in_to_its_allowances, a_written_contour_is_not_entered};
 pub use pattern::{Offsets, Relief};
 pub use sizes::Sizes;

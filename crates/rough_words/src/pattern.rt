@@ -278,7 +278,7 @@ fn offset_answer(
     let sizes = sizes_out(offsets, offsets.out_across, offsets.out_along);
     let form = form_with(alloc, frame, &sizes, start, contour)?;
     if let Some(what) = form.fault(alloc)? {
-        return Ok(FormAnswer::Refused(fault_of(head, &form, contour, what)));
+        return Ok(FormAnswer::Refused(fault_of(head, false, &form, contour, what)));
     }
     let lines = pattern_lines(alloc, head, offsets, frame, start, contour, scene)?;
     Ok(FormAnswer::Written(written(alloc, lines, blocks_behind(head, contour))?))

@@ -8,8 +8,9 @@ ghost use Rattle.rough_words.specs.Sizings.{IsNearSizes};
 ghost use Rattle.rough_words.specs.Roughs.{frame_for, form_with, blocks_behind, cycle_lines, form_answer, cycle_answer, contour_blocks, head_answer, rough_answer};
 
 use crate::answers::{fault_of, push_speed, written};
-use crate::frames::{frame_of, last_of, seen_pieces};
+use crate::frames::{frame_of, last_of, seen_pieces, side_of};
 use crate::head::{Head, head_of};
+use crate::shape::{has_pockets, shape_blocks, shape_fault};
 use crate::sizes::{Sizes, sizes_of};
 use arc_contour::Way;
 use contour_words::{Contour, Tempo, contour_of};
@@ -25,8 +26,17 @@ use std::alloc::{AllocError, Global};
 pub(crate) fn frame_for(way: Way, start: &Point, contour: &Contour) -> Frame
     ensures { result ≡ frame_for way start.now contour.now }
 {
-    let last = last_of(&contour.first.point, contour.lines.as_slice());
-    frame_of(way, start, &contour.first.point, &last)
+    let first = &contour.first.point;
+    let lines = contour.lines.as_slice();
+    let frame = frame_of(way, start, first, &last_of(first, lines));
+    if !contour.first.names_both {
+        return frame;
+    }
+    Frame {
+        way: frame.way,
+        across: side_of(way, start, first, lines, frame.across),
+        along: frame.along,
+    }
 }
 
 /// The form of these sizes.
@@ -98,10 +108,16 @@ fn form_answer(
     requires contour { IsNearContour contour.now }
     ensures { IfOk result (λ answer. answer ≡ form_answer head.now (rough_of form.now) contour.now scene.now) }
 {
-    if let Some(what) = form.fault(alloc)? {
-        return Ok(FormAnswer::Refused(fault_of(head, form, contour, what)));
+    if let Some(what) = shape_fault(alloc, form, contour)? {
+        return Ok(FormAnswer::Refused(fault_of(
+            head,
+            has_pockets(form, contour),
+            form,
+            contour,
+            what,
+        )));
     }
-    let blocks = form.rough_blocks(alloc)?;
+    let blocks = shape_blocks(alloc, form, contour)?;
     let lines = cycle_lines(alloc, &head.tempo, &blocks, scene)?;
     Ok(FormAnswer::Written(written(alloc, lines, blocks_behind(head, contour))?))
 }

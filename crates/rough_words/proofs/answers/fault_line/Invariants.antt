@@ -6,6 +6,6 @@ use Rattle.rough_words.proofs.answers.fault_line.Given as goal
 
 abbrev pub invariant-loop-line : goal.invariant-loop-line
 invariant-loop-line l = record {
-  rest : fault_line l.frame l.from (drop l.line-index l.lines) l.call ≡ fault_line l.frame l.first l.lines l.call;
+  rest : fault_line l.pockets l.frame l.from (drop l.line-index l.lines) l.call ≡ fault_line l.pockets l.frame l.first l.lines l.call;
   near : IsWritten l.from;
 }

@@ -1,0 +1,10 @@
+pub mod Turned
+pub mod Gaps
+pub mod Own
+pub mod Pieces
+pub mod Pushed
+pub mod Found
+pub mod Levels
+pub mod Cleared
+pub mod Told
+pub mod Sound
