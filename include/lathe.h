@@ -39,6 +39,7 @@ enum lathe_status {
     LATHE_REFUSED = 1,    /* the texts are refused: the text is the line of the refusal, and of lathe_events there is none */
     LATHE_ORDER = 2,      /* of lathe_events: the order has a byte other than 1 and 2 */
     LATHE_ALARM = 3,      /* a path raised an alarm, which stopped both */
+    LATHE_CLOSED = 8,     /* of a session: it is closed */
     LATHE_STOPPED = 10,   /* as many records as were asked for; of lathe_events: the order is over */
     LATHE_NO_MEMORY = 12, /* no memory: *length is 0, and the room as it was */
     LATHE_TOO_LONG = 13,  /* a tape of more than 4,194,304 bytes, or settings of more than 65,536: the same */
@@ -162,6 +163,66 @@ struct lathe_event {
 uint8_t lathe_events(const uint8_t *left, size_t left_length, const uint8_t *right, size_t right_length,
                      const uint8_t *settings, size_t settings_length, const uint8_t *order, size_t order_length,
                      struct lathe_event *room, size_t room_length, size_t *length);
+
+/* A run that you hold open: one turn at a time, for a path of your choice. A step costs one turn, however long the run is.
+ *
+ * Begin with `struct lathe_session run = {NULL};`, which is a closed one. It may be moved, and not copied: only one of two copies
+ * counts. Never change it yourself. It belongs to one thread at a time: no two calls with one of them at once. Different ones, and all other
+ * calls, go side by side.
+ * The texts are not kept: they may go once lathe_open has returned. What a run takes of memory is of malloc, some megabytes for the
+ * longest tapes, and lathe_close gives it back. Each call with a closed one answers 8 and does nothing. */
+struct lathe_session {
+    void *kept; /* the library's own; NULL: closed */
+};
+
+/* Opens a run: 0. Else it is closed: 1 and the refusal, 12 or 13. What was open in it before is closed first. */
+uint8_t lathe_open(const uint8_t *left, size_t left_length, const uint8_t *right, size_t right_length,
+                   const uint8_t *settings, size_t settings_length,
+                   struct lathe_refusal *refusal, struct lathe_session *session);
+
+/* Gives path 1 or 2 its turn, and tells what it came to, at most LATHE_TURN_EVENTS events: those that lathe_events gives for the same turn. The
+ * turn of a path that waits or has ended has no event, nor has any behind an alarm. Then how far the run has come: 10 it may go on,
+ * 0 both paths have ended, 3 an alarm, 14 as many records as the settings allow. Without a turn: 2 there is no such path; 12
+ * there was no memory, and the run is as it was. */
+#define LATHE_TURN_EVENTS 11
+uint8_t lathe_step(struct lathe_session *session, uint8_t path, struct lathe_event *room, size_t room_length, size_t *length);
+
+/* The events of the last turn once more; before the first turn how both paths begin, six events. After lathe_undo, of the last turn up to there. */
+uint8_t lathe_happened(struct lathe_session *session, struct lathe_event *room, size_t room_length, size_t *length);
+
+/* How a path stands. Work coordinates are machine coordinates less the shift. */
+struct lathe_standing {
+    int64_t x, z;             /* where its turret stands, machine coordinates, 0.001 mm; x is a diameter */
+    int64_t shift_x, shift_z; /* the shift in force: work offset, and geometry and wear of the tool */
+    int64_t feed;             /* what F set last, in millionths; 0 if nothing */
+    int64_t speed;            /* what S set last, in millionths; 0 if nothing */
+    int64_t limit;            /* the highest speed, in millionths; 0 if there is none */
+    uint32_t records;         /* how many records there are */
+    uint32_t line;            /* the line of its next block */
+    uint16_t waiting;         /* the code at which it waits, or 0 */
+    uint16_t tool;            /* the last T word */
+    uint16_t motion;          /* the motion code, as 1 for G01 */
+    uint16_t work;            /* the work offset, 54 to 59 */
+    uint8_t offset;           /* the tool offset, or 0 */
+    uint8_t at_surface;       /* 1: S is metres per minute at the surface */
+    uint8_t per_revolution;   /* 1: F is per revolution */
+    uint8_t ended;            /* 1: the path has ended */
+    uint8_t depth;            /* how many calls are open */
+    uint8_t nothing[3];       /* 0 */
+};
+
+/* How path 1 or 2 stands, and how far the run has come; 2 if there is no such path. */
+uint8_t lathe_look(struct lathe_session *session, uint8_t path, struct lathe_standing *standing);
+
+/* The text of the machine as it stands, as lathe_state has it: positions, codes, offsets and all variables. 0 or 12. */
+uint8_t lathe_tell(struct lathe_session *session, uint8_t *room, size_t room_length, size_t *length);
+
+/* Goes back to right behind the N-th meeting, or with 0 to the start, by making the turns up to there anew. How far the run has come
+ * then; 1 if there was no such meeting, 12 if there was no memory, and the run is as it was. */
+uint8_t lathe_undo(struct lathe_session *session, uint32_t meeting);
+
+/* Closes a run and gives its memory back; a closed one stays closed. */
+void lathe_close(struct lathe_session *session);
 
 #ifdef __cplusplus
 }

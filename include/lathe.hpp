@@ -153,6 +153,65 @@ std::string word(Call &&call, std::uint16_t number) {
 /// What the number of a refusal or an alarm means, in a sentence; empty if there is no such number.
 [[nodiscard]] inline std::string meaning(std::uint16_t number) { return detail::word(lathe_meaning, number); }
 
+/// A run that is held open: a step costs one turn. It can be moved, and closes itself. It belongs to one thread at a time.
+class session {
+public:
+    session() noexcept = default;
+    session(const session &) = delete;
+    session &operator=(const session &) = delete;
+    session(session &&from) noexcept : it(std::exchange(from.it, lathe_session{nullptr})) {}
+    session &operator=(session &&from) noexcept {
+        std::swap(it, from.it);
+        return *this;
+    }
+    ~session() { close(); }
+
+    /// Opens a run of these texts, which need not outlive the call: LATHE_DONE, or why not. What was open is closed first.
+    [[nodiscard]] judged open(const texts &of) noexcept {
+        judged said{LATHE_DONE, {}};
+        said.status = static_cast<lathe_status>(lathe_open(LATHE_TEXTS_OF(of), &said.refusal, &it));
+        return said;
+    }
+
+    /// The events of one turn.
+    struct turn {
+        lathe_status status;
+        std::size_t count;
+        lathe_event events[LATHE_TURN_EVENTS];
+        const lathe_event *begin() const noexcept { return events; }
+        const lathe_event *end() const noexcept { return events + count; }
+    };
+
+    /// Gives path 1 or 2 its turn. LATHE_STOPPED: the run may go on.
+    turn step(int path) noexcept {
+        turn made{LATHE_DONE, 0, {}};
+        made.status = static_cast<lathe_status>(lathe_step(&it, static_cast<std::uint8_t>(path), made.events, LATHE_TURN_EVENTS, &made.count));
+        return made;
+    }
+
+    /// How path 1 or 2 stands; all 0 if there is no such path, or the session is closed.
+    [[nodiscard]] lathe_standing standing(int path) noexcept {
+        struct lathe_standing found = {};
+        lathe_look(&it, static_cast<std::uint8_t>(path), &found);
+        return found;
+    }
+
+    /// The text of the machine as it stands.
+    [[nodiscard]] answer tell() {
+        return detail::told([&](auto *room, auto size, auto *length) { return lathe_tell(&it, room, size, length); });
+    }
+
+    /// Goes back to right behind the N-th meeting, or with 0 to the start. LATHE_REFUSED: there was none.
+    lathe_status undo(std::uint32_t meeting) noexcept { return static_cast<lathe_status>(lathe_undo(&it, meeting)); }
+
+    void close() noexcept { lathe_close(&it); }
+
+    [[nodiscard]] explicit operator bool() const noexcept { return it.kept != nullptr; }
+
+private:
+    lathe_session it{nullptr};
+};
+
 #undef LATHE_TEXTS_OF
 
 }  // namespace lathe

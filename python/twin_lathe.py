@@ -26,6 +26,7 @@ class Status(IntEnum):
     REFUSED = 1
     ORDER = 2
     ALARM = 3
+    CLOSED = 8
     STOPPED = 10
     NO_MEMORY = 12
     TOO_LONG = 13
@@ -104,6 +105,37 @@ class Refusal(ctypes.Structure):
         return f"Refusal(number={self.number}, path={self.path}, line={self.line}, other={self.other}, after={self.after})"
 
 
+class Standing(ctypes.Structure):
+    """How a path stands. Work coordinates are machine coordinates less the shift."""
+    x: int
+    z: int
+    shift_x: int
+    shift_z: int
+    feed: int
+    speed: int
+    limit: int
+    records: int
+    line: int
+    waiting: int
+    tool: int
+    motion: int
+    work: int
+    offset: int
+    at_surface: int
+    per_revolution: int
+    ended: int
+    depth: int
+    _fields_ = [*((name, ctypes.c_int64) for name in ("x", "z", "shift_x", "shift_z", "feed", "speed", "limit")),
+                *((name, ctypes.c_uint32) for name in ("records", "line")),
+                *((name, ctypes.c_uint16) for name in ("waiting", "tool", "motion", "work")),
+                *((name, ctypes.c_uint8) for name in ("offset", "at_surface", "per_revolution", "ended", "depth")),
+                ("_nothing", ctypes.c_uint8 * 3)]
+
+
+class _Kept(ctypes.Structure):
+    _fields_ = [("kept", ctypes.c_void_p)]
+
+
 class Events(NamedTuple):
     """How a run ended, and its events in order."""
     status: Status
@@ -111,7 +143,7 @@ class Events(NamedTuple):
 
 
 class LatheError(Exception):
-    """There is no memory for an answer, a text is too long, or an order names no path."""
+    """There is no memory for an answer, a text is too long, an order names no path, or a session is closed."""
 
     def __init__(self, status: Status):
         super().__init__(f"{status.name} ({int(status)})")
@@ -217,6 +249,10 @@ class Lathe:
             raise LatheError(status)
         return found
 
+    def open(self, left: Text, right: Text, settings: Text = b"") -> "Session":
+        """Opens a run, to go one turn at a time. Raises Refused if the texts are refused."""
+        return Session(self, (left, right, settings))
+
     def _word(self, name: str, number: int) -> str:
         call = getattr(self.library, name)
         call.restype = _SIZE
@@ -230,3 +266,79 @@ class Lathe:
     def meaning(self, number: int) -> str:
         """What the number of a refusal or an alarm means, in a sentence; empty if there is no such number."""
         return self._word("lathe_meaning", number)
+
+
+class Refused(LatheError):
+    """The texts of a session are refused, as `refusal` says."""
+
+    def __init__(self, refusal: Refusal, text: str):
+        Exception.__init__(self, text)
+        self.status, self.refusal = Status.REFUSED, refusal
+
+
+class Session:
+    """A run that is held open: a step costs one turn. Made by Lathe.open; `with` closes it. It belongs to one thread at a time."""
+
+    def __init__(self, lathe: Lathe, texts: Sequence[Text]):
+        self._lathe, self._kept, why = lathe, _Kept(), Refusal()
+        status = self._call("lathe_open", *lathe._given(texts), ctypes.byref(why), ctypes.byref(self._kept))
+        if status == Status.REFUSED:
+            raise Refused(why, f"refused {why.number} {lathe.name(why.number)}")
+        if status != Status.DONE:
+            raise LatheError(status)
+
+    def _call(self, name: str, *given) -> Status:
+        call = getattr(self._lathe.library, name)
+        call.restype = ctypes.c_uint8
+        return Status(call(*given))
+
+    def _asked(self, name: str, *given) -> Status:
+        status = self._call(name, ctypes.byref(self._kept), *given)
+        if status in (Status.ORDER, Status.CLOSED, Status.NO_MEMORY):
+            raise LatheError(status)
+        return status
+
+    def _events(self, name: str, *given) -> Events:
+        room, length = (Event * 11)(), _SIZE()
+        status = self._asked(name, *given, room, _SIZE(11), ctypes.byref(length))
+        return Events(status, list(room[:length.value]))
+
+    def step(self, path: int) -> Events:
+        """Gives path 1 or 2 its turn: how far the run has come (STOPPED: it may go on), and what the turn came to."""
+        return self._events("lathe_step", ctypes.c_uint8(path))
+
+    def happened(self) -> Events:
+        """The events of the last turn once more; before the first how both paths begin."""
+        return self._events("lathe_happened")
+
+    def standing(self, path: int) -> Standing:
+        """How path 1 or 2 stands."""
+        found = Standing()
+        self._asked("lathe_look", ctypes.c_uint8(path), ctypes.byref(found))
+        return found
+
+    def tell(self) -> str:
+        """The text of the machine as it stands: positions, codes, offsets and all variables."""
+        room, length = (ctypes.c_uint8 * 65536)(), _SIZE()
+        self._asked("lathe_tell", room, _SIZE(65536), ctypes.byref(length))
+        if length.value > 65536:
+            room = (ctypes.c_uint8 * length.value)()
+            self._asked("lathe_tell", room, length, ctypes.byref(length))
+        return bytes(room[:length.value]).decode()
+
+    def undo(self, meeting: int = 0) -> bool:
+        """Goes back to right behind the N-th meeting, or to the start; whether there was such a meeting."""
+        return self._asked("lathe_undo", ctypes.c_uint32(meeting)) != Status.REFUSED
+
+    def close(self) -> None:
+        """Closes the run. Once more does nothing."""
+        self._lathe.library.lathe_close(ctypes.byref(self._kept))
+
+    def __enter__(self) -> "Session":
+        return self
+
+    def __exit__(self, *_) -> None:
+        self.close()
+
+    def __del__(self) -> None:
+        self.close()

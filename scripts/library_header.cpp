@@ -53,6 +53,17 @@ int main(int count, char **words) {
     check("judge: refused", empty.status == LATHE_REFUSED && lathe::name(empty.refusal.number) == "NoProgramNumber");
     check("verify: refused", lathe::verify({"", "", ""}).text.find("refused 13 NoProgramNumber") == 0);
     check("words", lathe::name(72) == "WaitMismatch" && !lathe::meaning(72).empty() && lathe::name(7).empty() && lathe::meaning(7).empty());
+    lathe::session run;
+    check("closed", !run && run.step(1).status == LATHE_CLOSED && run.undo(0) == LATHE_CLOSED && run.standing(1).records == 0);
+    check("opened", run.open(of).status == LATHE_DONE && run);
+    std::size_t made = 0;
+    for (int turn = 0; turn < 400; turn++) made += run.step(1 + turn % 2).count;
+    lathe::session moved = std::move(run);
+    check("moved", !run && moved && moved.standing(1).ended == 1 && made > 0);
+    check("it tells", moved.tell().status == LATHE_DONE && moved.tell().text.find("path 1") == 0);
+    check("undo", moved.undo(1) == LATHE_STOPPED && moved.undo(9999) == LATHE_REFUSED && moved.standing(2).records > 0);
+    check("refused", moved.open({"", "", ""}).status == LATHE_REFUSED && !moved);
+    static_assert(!std::is_copy_constructible<lathe::session>::value && std::is_nothrow_move_constructible<lathe::session>::value, "a session moves");
     static_assert(noexcept(lathe::judge(of)), "what takes no memory throws nothing");
     static_assert(std::is_nothrow_move_constructible<lathe::answer>::value, "answers move");
     std::printf("%d passed, %d failed\n", passed, failed);

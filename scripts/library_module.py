@@ -8,7 +8,7 @@ import sys
 PYTHON, LIBRARY, ROOT = sys.argv[1:]
 sys.dont_write_bytecode = True
 sys.path.insert(0, PYTHON)
-from twin_lathe import Event, Kind, Lathe, Refusal, Status, VERSION  # noqa: E402
+from twin_lathe import Event, Kind, Lathe, LatheError, Refusal, Refused, Status, VERSION  # noqa: E402
 
 passed = failed = 0
 
@@ -62,6 +62,25 @@ pair = [b"%\nO1\nG00 X50. Z2.\nM101\nM30\n%\n", b"%\nO2\nM102\nM30\n%\n"]
 why = lathe.refusal(*pair)
 check("a refusal", why and (why.number, why.path, why.line, why.other, why.after) == (72, 1, 4, 3, 0) and "number=72" in repr(why))
 check("its line says the same", lathe.verify(*pair).text == f"refused 72 {lathe.name(72)} path 1 line 4 path 2 line 3 after 0\n")
+order = [1, 2, 2, 1, 1] * 60
+with lathe.open(*texts) as run:
+    stepped = [run.happened()] + [run.step(path) for path in order]
+    found = lathe.events(*texts, bytes(order))
+    check("steps come to the events", [bytes(it) for turn in stepped for it in turn.list] == [bytes(it) for it in found.list])
+    check("and end as they do", stepped[-1].status == found.status)
+    check("it tells its state", "records" in run.tell() and run.standing(1).records == run.standing(2).records > 0)
+    check("undo", run.undo(0) and run.standing(1).records == 0 and not run.undo(1))
+for what in (lambda: run.step(1), lambda: run.tell(), lambda: run.standing(2), lambda: run.undo(0)):
+    try:
+        what()
+        check("a closed session", False)
+    except LatheError as error:
+        check("a closed session", error.status == Status.CLOSED)
+try:
+    lathe.open(*pair)
+    check("refused texts", False)
+except Refused as error:
+    check("refused texts", error.refusal.number == 72 and "WaitMismatch" in str(error))
 numbers = list(meanings())
 check("docs/ERRORS.md has numbers", len(numbers) > 50)
 for number, name, meaning in numbers:

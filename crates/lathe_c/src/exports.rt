@@ -26,7 +26,7 @@ use tape_calls::{TapeQuestion, TapeTexts, answer_tape};
 use zone_calls::answer_zones;
 
 /// Gives the status of an answer, and puts its length into `len`.
-fn told(it: Said, len: &mut usize) -> u8
+pub(crate) fn told(it: Said, len: &mut usize) -> u8
     ensures { it ≡ answer_with result len.new }
 {
     *len = it.len;

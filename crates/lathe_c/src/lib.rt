@@ -4,8 +4,12 @@
 #![tactic(auto)]
 
 mod exports;
+mod handles;
 
 pub use exports::{
     lathe_events, lathe_expand, lathe_judge, lathe_meaning, lathe_name, lathe_plain, lathe_races,
     lathe_run, lathe_state, lathe_trace, lathe_verify, lathe_version, lathe_waits, lathe_zones,
+};
+pub use handles::{
+    lathe_close, lathe_happened, lathe_look, lathe_open, lathe_step, lathe_tell, lathe_undo,
 };
