@@ -53,7 +53,7 @@ fn scaled(r: u128, size: u128) -> u128
 }
 
 /// Whether the leg keeps beside the line, and does not go back along it.
-pub(crate) fn keeps_beside(nose: &Nose, p: &Place, q: &Place, leg: &Line) -> bool
+pub fn keeps_beside(nose: &Nose, p: &Place, q: &Place, leg: &Line) -> bool
     requires nose { nose.now.radius ≤ 2000000 }
     requires p { IsWithin FAR p.now }
     requires q { IsWithin FAR q.now }

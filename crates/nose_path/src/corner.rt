@@ -76,7 +76,7 @@ fn before(nose: &Nose, p: &Place, e: &Place) -> Option<Place>
 
 /// Where the legs before and behind the corner end and begin.
 #[tactic(auto, unfolding(crate::specs::Legs::turn_at))]
-pub(crate) fn turn_at(nose: &Nose, p: &Place, d: &Place, e: &Place) -> Option<Turn>
+pub fn turn_at(nose: &Nose, p: &Place, d: &Place, e: &Place) -> Option<Turn>
     requires nose { nose.now.radius ≤ 2000000 }
     requires p { IsWithin FAR p.now }
     requires d { IsDirection d.now }

@@ -13,6 +13,8 @@ mod legs;
 mod nose;
 mod tip;
 
+pub use beside::keeps_beside;
+pub use corner::turn_at;
 pub use legs::nose_path;
 pub use nose::{Ends, LARGEST_RADIUS, Nose, NoseCause, NoseFault, OFF, StartUp, Step, Turn};
 pub use tip::{centre_of, point_of};

@@ -37,7 +37,7 @@ const ROWS: &str = "\
 ";
 
 /// A point of a row, or the point at 0 where it can't be a position.
-fn point_in(all: &[i64], place: usize) -> Point
+pub(crate) fn point_in(all: &[i64], place: usize) -> Point
     ensures { IsPosition result }
 {
     let point = Point {
@@ -63,7 +63,7 @@ fn contour(alloc: Global, all: &[i64]) -> Result<Vec<Place>, AllocError>
 }
 
 /// The words of a fault.
-fn fault_text(alloc: Global, fault: &NoseFault) -> Result<String, AllocError> {
+pub(crate) fn fault_text(alloc: Global, fault: &NoseFault) -> Result<String, AllocError> {
     let cause = match fault.cause {
         NoseCause::NoLength => "no length",
         NoseCause::UsedUp => "used up",

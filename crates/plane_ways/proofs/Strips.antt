@@ -119,7 +119,7 @@ parts_lie_apart w a b p q g j k i l wide =
         omega (arith, ints, by_n, by_m, lo_is, hi_is, wide_is, split)
 
 -- what the squares say of a strip of width d: d² W ≤ g², a way that goes g N along it
-width_holds : (d W g N t V : ℕ) → d * d * W ≤ g * g → 0 < g → N * g ≤ t → t * t ≤ W * V → d * N * (d * N) ≤ V
+pub width_holds : (d W g N t V : ℕ) → d * d * W ≤ g * g → 0 < g → N * g ≤ t → t * t ≤ W * V → d * N * (d * N) ≤ V
 width_holds d W g N t V wide some goes square = elim (cases_lt V (d * N * (d * N))) [
   | inr held ↦ held
   | inl less ↦ (
